@@ -2,6 +2,7 @@ pub mod Tree
 pub mod Count
 pub mod Links
 pub mod Labels
+pub mod Joins
 pub mod Cell
 pub mod Max
 pub mod Form
