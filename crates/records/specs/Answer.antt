@@ -27,10 +27,11 @@ each zero f = []
 each (suc k) f = each k f ++ f (suc k)
 
 -- kind 3: member, net, value
+unfoldable pub memberBytes : ℕ → ℤ → ℤ → List ℕ
+memberBytes j x v = 3 ∷ j ∷ low16 (ofZ w16 x) ++ low32 (ofZ w32 v)
+
 unfoldable pub memberRecord : Market → List ℤ → ℕ → List ℕ
-memberRecord m ys j =
-    let x : ℤ = net j (m .links) ys in
-    3 ∷ j ∷ low16 (ofZ w16 x) ++ low32 (ofZ w32 (orZero (value (m .offers) j x)))
+memberRecord m ys j = let x : ℤ = net j (m .links) ys in memberBytes j x (orZero (value (m .offers) j x))
 
 -- kind 4: a, b, zero, flow, load
 unfoldable pub linkRecord : Link → ℤ → List ℕ

@@ -6,7 +6,6 @@ ghost use lib.ListN.{length};
 ghost use Rattle.records.specs.Records.{linkOf, offerOf, entryAt};
 ghost use Rattle.records.specs.Refusals.{unsound};
 ghost use Rattle.records.specs.Cases.{readingOf, verdictOf};
-
 use numbers::Member;
 use numbers::Price;
 use numbers::Units;
@@ -95,7 +94,14 @@ pub fn read_at(file: &[u8], i: usize) -> Reading
     let kind = file[at];
     if kind == 1 {
         let capacity = two(file[at + 4], file[at + 5]);
-        return link_of(file[at + 1], file[at + 2], file[at + 3], capacity, file[at + 6], file[at + 7]);
+        return link_of(
+            file[at + 1],
+            file[at + 2],
+            file[at + 3],
+            capacity,
+            file[at + 6],
+            file[at + 7],
+        );
     }
     if kind == 2 {
         let units = Units::from_bits(two(file[at + 2], file[at + 3]));
