@@ -1,2 +1,4 @@
 pub mod Bit
 pub mod Order
+pub mod Near
+pub mod Parts

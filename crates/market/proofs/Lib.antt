@@ -1,0 +1,13 @@
+pub mod Passes
+pub mod Top
+pub mod Tables
+pub mod Looked
+pub mod Scan
+pub mod Ringless
+pub mod LinkRecords
+pub mod Filled
+pub mod Stops
+pub mod Trees
+pub mod Arrays
+pub mod Checked
+pub mod Sound

@@ -1,0 +1,13 @@
+-- `refused` meets its contract, by computation. Assumes nothing.
+use mathlib.Core.Path.{refl}
+use Rattle.records.specs.Cases.{verdictOf}
+use Rattle.market.specs.Feeder.{built, places}
+use Rattle.market.proofs.order.refused.Statement.{statement}
+use Rattle.market.proofs.order.refused.Tie as tie
+
+returns : tie.Need-returns
+unfolding built verdictOf places
+returns c = refl
+
+pub refused-spec : {M : Type 1} → statement M
+refused-spec = tie.close (tie.spec returns)
