@@ -1,3 +1,7 @@
 pub mod Entries
 pub mod Starred
 pub mod Earlier
+pub mod Written
+pub mod Carried
+pub mod Filled
+pub mod Settled

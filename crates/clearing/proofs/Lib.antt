@@ -1,0 +1,12 @@
+pub mod Slots
+pub mod Parts
+pub mod Turns
+pub mod Passes
+pub mod Tops
+pub mod Joints
+pub mod Sizes
+pub mod Spread
+pub mod Positions
+pub mod Writing
+pub mod Solved
+pub mod One

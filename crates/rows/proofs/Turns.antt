@@ -1,0 +1,59 @@
+-- Sums of cells, and turns of the search for a cell's best and of the pass over a row. Assumes nothing.
+use mathlib.Core.Path.{_≡_, refl, sym, ap, subst, _∙_}
+use mathlib.Core.List.{List}
+use mathlib.Core.Logic.{inl, inr}
+use Prim.Native.Nat.{ℕ, zero, suc, _+_, _-_, _<_, _≤_}
+use native.Mathlib.Nat.{eq-or-lt-of-le}
+use native.Mathlib.Numerals.{add-one}
+use native.Mathlib.Omega.{arith}
+use lib.ListN.{length, getD, take, set}
+use lib.Seq.{getD-set-same, getD-set-other, getD-take}
+use borrow.Author.Tests.{lt-ltb, le-ltb}
+use Rattle.problem.proofs.Cell.{_⊕_, ⊕-comm}
+use Rattle.problem.proofs.Max.{maxTo, argmax}
+use Rattle.rows.specs.Rows.{meets}
+
+-- ---- the sum of two cells
+pub none-left : (a b : ℕ) → a ≡ 0 → 0 ≡ a ⊕ b
+unfolding _⊕_
+none-left a b e = rw e
+
+pub none-right : (a b : ℕ) → b ≡ 0 → 0 ≡ a ⊕ b
+none-right a b e = none-left b a e ∙ ⊕-comm b a
+
+pub both : (a b : ℕ) → (a ≡ 0 → ⊥) → (b ≡ 0 → ⊥) → a + b - 1 ≡ a ⊕ b
+unfolding _⊕_
+both zero b n m = absurd (n refl)
+both (suc a) zero n m = absurd (m refl)
+both (suc a) (suc b) n m = omega arith
+
+-- ---- the best of places 0 to p + 1: s, at the new place, or what it was
+module _ (f : ℕ → ℕ) (p best s : ℕ) (eb : best ≡ maxTo f p) (es : s ≡ f (p + 1)) where
+  pub better : best < s → (s ≡ maxTo f (p + 1)) × (p + 1 ≡ argmax f (p + 1))
+  unfolding maxTo argmax
+  better h =
+      let z : s ≡ f (suc p) = es ∙ ap f (add-one p) in
+      rw (add-one, lt-ltb (maxTo f p) (f (suc p)) (omega arith)) (omega arith, refl)
+
+  pub no-better : (pick : ℕ) → pick ≡ argmax f p → s ≤ best → (best ≡ maxTo f (p + 1)) × (pick ≡ argmax f (p + 1))
+  unfolding maxTo argmax
+  no-better pick ek h =
+      let z : s ≡ f (suc p) = es ∙ ap f (add-one p) in
+      rw (add-one, le-ltb (maxTo f p) (f (suc p)) (omega arith)) (omega arith, ek)
+
+-- ---- one more cell is stored
+pub stored : (xs : List ℕ) (x v : ℕ) (f : ℕ → ℕ) → x < length xs → ((y : ℕ) → y < x → getD xs y 0 ≡ f y) → v ≡ f x
+    → (y : ℕ) → y < x + 1 → getD (set xs x v) y 0 ≡ f y
+stored xs x v f l h e y d =
+    elim (eq-or-lt-of-le {n = y} {m = x} (omega arith)) [
+      | inl q ↦ subst (λ (t : ℕ). getD (set xs x v) t 0 ≡ f t) (sym q) (getD-set-same xs x v 0 l ∙ e)
+      | inr q ↦ getD-set-other xs x y v 0 (omega arith) ∙ h y q
+    ]
+
+-- ---- a message meets a copy of the row as it meets the row
+pub copied-meets : (row old msg : List ℕ) (x : ℕ) → ((y : ℕ) → y < length row → getD old y 0 ≡ getD row y 0)
+    → 1 ≤ length msg → x + length msg ≤ length row → (p : ℕ) → p ≤ length msg - 1 → meets (take (length row) old) msg x p ≡ meets row msg x p
+unfolding meets
+copied-meets row old msg x e h l p d =
+    let i : x + (length msg - 1 - p) < length row = omega arith in
+    ap (λ (v : ℕ). getD msg p 0 ⊕ v) (getD-take (length row) old (x + (length msg - 1 - p)) 0 i ∙ e (x + (length msg - 1 - p)) i)

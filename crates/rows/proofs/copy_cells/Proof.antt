@@ -1,0 +1,65 @@
+-- `copy_cells` meets its contract. The loop's invariant: the first i cells are copied. Assumes nothing.
+use native.Mathlib.Omega.{arith}
+use mathlib.Core.Path.{_≡_, refl}
+use Prim.Native.Nat.{ℕ, _<_, _≤_, _-_}
+use lib.ListN.{length, getD, length-set}
+use borrow.Author.Count.{below-none}
+use Rattle.rows.proofs.Turns.{stored}
+use Rattle.rows.proofs.copy_cells.Statement.{statement}
+use Rattle.rows.proofs.copy_cells.Tie as tie
+
+abbrev Inv-loop : tie.InvT-loop
+Inv-loop from to₀ i₀ to i = (i ≤ length from) × (length to ≡ length to₀) × ((x : ℕ) → x < i → getD to x 0 ≡ getD from x 0)
+
+abbrev μ-loop : tie.MeasureT-loop
+μ-loop from to₀ i₀ to i = length from - i
+
+loop-holds : tie.Need-loop-holds Inv-loop μ-loop
+loop-holds c = (omega arith, refl, below-none _)
+
+mul-to : tie.Need-mul-to Inv-loop μ-loop
+mul-to c = omega arith
+
+shared-slice-read-to : tie.Need-shared-slice-read-to Inv-loop μ-loop
+shared-slice-read-to c = omega arith
+
+mul-to-2 : tie.Need-mul-to-2 Inv-loop μ-loop
+mul-to-2 c = omega arith
+
+slice-write-to : tie.Need-slice-write-to Inv-loop μ-loop
+slice-write-to c = omega arith
+
+add-i : tie.Need-add-i Inv-loop μ-loop
+add-i c = omega arith
+
+loop-less : tie.Need-loop-less Inv-loop μ-loop
+loop-less c = omega arith
+
+loop-again : tie.Need-loop-again Inv-loop μ-loop
+loop-again c =
+    let top = c .before .before in
+    let a = top .before .args in
+    (omega arith, simp length-set (top .loop .inv .1), stored (top .loop .to) (top .loop .i) _ (λ x. getD (a .from .now) x 0) (omega arith) (top .loop .inv .2) refl)
+
+same-length : tie.Need-same-length Inv-loop μ-loop
+same-length c = c .before .loop .inv .1
+
+returns : tie.Need-returns Inv-loop μ-loop
+returns c = λ x l. c .before .loop .inv .2 x (omega arith)
+
+pub copy-cells-spec : {M : Type 1} → statement M
+copy-cells-spec =
+    tie.close
+    (tie.spec
+    Inv-loop
+    μ-loop
+    loop-holds
+    mul-to
+    shared-slice-read-to
+    mul-to-2
+    slice-write-to
+    add-i
+    loop-less
+    loop-again
+    same-length
+    returns)

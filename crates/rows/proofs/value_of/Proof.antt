@@ -1,0 +1,86 @@
+-- `value_of` meets its contract. The loop's invariant: the whole file's cell is the higher of the best so far and what the
+-- records from i on give. Assumes nothing.
+use mathlib.Core.Path.{_≡_, refl, sym, ap, _∙_}
+use mathlib.Core.Logic.{⊎-elim}
+use Prim.Native.Nat.{ℕ, _≤_, _-_, _/_, max}
+use native.Mathlib.Omega.{arith}
+use lib.IntN.{pos, _-ℤ_}
+use lib.ListN.{length}
+use Rattle.problem.specs.Problem.{value}
+use Rattle.problem.proofs.Prices.{cellOf, value-low}
+use Rattle.records.specs.Records.{entries}
+use Rattle.records.specs.Market.{offersOf}
+use Rattle.rows.proofs.Prices.{none-back, price-back}
+use Rattle.rows.proofs.Gives.{left, left-all, left-none, left-more, priced, cell-bound}
+use Rattle.rows.proofs.value_of.Statement.{statement}
+use Rattle.rows.proofs.value_of.Tie as tie
+
+abbrev Inv-loop : tie.InvT-loop
+Inv-loop file j x n best₀ i₀ best i =
+    (n ≡ length file / 8) × (i ≤ n) × (cellOf 1000000 (value (offersOf (entries file)) (j .0) (x .0)) ≡ max best (left file n (j .0) (x .0) i))
+
+abbrev μ-loop : tie.MeasureT-loop
+μ-loop file j x n best₀ i₀ best i = n - i
+
+-- once the records are through, the best is the whole file's cell
+best-is : (c : tie.After-loop Inv-loop μ-loop)
+    → c .before .loop .best
+    ≡ cellOf 1000000 (value (offersOf (entries (c .before .before .before .args .file .now))) (c .before .before .before .args .j .0) (c .before .before .before .args .x .0))
+best-is c = sym (c .before .loop .inv .2 ∙ left-none _ _ _ _ _ _ (c .loop-test .left))
+
+loop-holds : tie.Need-loop-holds Inv-loop μ-loop
+loop-holds c = (refl, omega arith, left-all _ _ _ _ _ refl refl)
+
+cell-at-requires : tie.Need-cell-at-requires Inv-loop μ-loop
+cell-at-requires c κs = omega arith
+
+add-i : tie.Need-add-i Inv-loop μ-loop
+add-i c = omega arith
+
+loop-less : tie.Need-loop-less Inv-loop μ-loop
+loop-less c = omega arith
+
+loop-again : tie.Need-loop-again Inv-loop μ-loop
+loop-again c =
+    let l = c .before .before in
+    let g = c .before .cell-at .ensures in (
+      refl,
+      omega arith,
+      l .before .loop .inv .2
+          ∙ left-more _ _ _ _ _ _ _ (l .loop-test .taken)
+          (⊎-elim (λ s. omega (arith, g, s .0 .taken, s .1)) (λ s. omega (arith, g, s .0 .left, s .1)) (c .if1 .came)),
+    )
+
+returns : tie.Need-returns Inv-loop μ-loop
+returns c = sym (none-back 1000000 _ (sym (best-is (c .before)) ∙ c .if2 .taken))
+
+total-of-requires : tie.Need-total-of-requires Inv-loop μ-loop
+total-of-requires c κs =
+    let a = c .before .before .before .before .args in
+    let t = cell-bound (a .j .0) (a .x .0) (a .file .now) in
+    let e = best-is (c .before) in
+    (omega (arith, c .if2 .left), omega arith, omega arith)
+
+returns-2 : tie.Need-returns-2 Inv-loop μ-loop
+returns-2 c =
+    let l = c .before .before in
+    let a = l .before .before .before .args in
+    let v = value (offersOf (entries (a .file .now))) (a .j .0) (a .x .0) in
+    c .total-of .ensures
+    ∙ ap (λ (k : ℕ). pos (k - 1) -ℤ pos 1000000) (best-is l)
+    ∙ sym (price-back 1000000 v (value-low 1000000 (offersOf (entries (a .file .now))) (priced (a .file .now)) (a .j .0) (a .x .0)) (omega (arith, best-is l, c .before .if2 .left)))
+
+pub value-of-spec : {M : Type 1} → statement M
+value-of-spec =
+    tie.close
+    (tie.spec
+    Inv-loop
+    μ-loop
+    loop-holds
+    cell-at-requires
+    add-i
+    loop-less
+    loop-again
+    returns
+    total-of-requires
+    returns-2)
