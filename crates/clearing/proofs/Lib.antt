@@ -10,3 +10,4 @@ pub mod Positions
 pub mod Writing
 pub mod Solved
 pub mod One
+pub mod Shams

@@ -1,0 +1,151 @@
+//! Random small markets against a search that tries every flow on every link.
+
+use crate::common::{cases, cleared, upward, Link, Offer, Random, Sheet};
+
+/// The most combinations of flows that the search tries.
+const MOST_TRIED: i64 = 3000;
+
+/// A market of at most six members on a tree, with few units and few prices, so that many
+/// allocations have the same total.
+pub fn random_sheet(random: &mut Random) -> Sheet {
+    let n = 1 + random.below(6);
+    let mut members: Vec<usize> = (1..=n).collect();
+    random.shuffle(&mut members);
+    let mut links = Vec::new();
+    let mut tried = 1;
+    for i in 1..n {
+        let most = (MOST_TRIED / tried - 1) / 2;
+        let capacity = random.between(0, most.min(3));
+        tried *= 2 * capacity + 1;
+        let earlier = members[random.below(i)];
+        links.push(Link::between(members[i], earlier, capacity));
+    }
+    let price_step = random.pick(&[0, 1, 10, 333_333]);
+    let most_units = random.pick(&[1, 2, 4, 6]);
+    let most_offers = random.pick(&[1, 3, 8, 40]);
+    let idle_missing = random.pick(&[1, 3, 100]);
+    let mut offers = Vec::new();
+    for member in 1..=n {
+        let mut table: Vec<i64> = (-most_units..=most_units).collect();
+        table.extend([-2000, 2000]);
+        random.shuffle(&mut table);
+        table.truncate(1 + random.below(most_offers));
+        if !random.one_in(idle_missing) && !table.contains(&0) {
+            table.push(0);
+        }
+        offers.extend(table.into_iter().map(|units| Offer {
+            member,
+            units,
+            price: price_step * random.between(-3, 3),
+        }));
+    }
+    Sheet::new(n, links, offers)
+}
+
+/// What the search finds: the highest total, how many allocations have it, and of those the flows
+/// whose list of upward flows comes first.
+struct Found {
+    total: i64,
+    equals: u64,
+    list: Vec<i64>,
+    flows: Vec<i64>,
+}
+
+fn search(sheet: &Sheet) -> Option<Found> {
+    let walk = sheet.walk();
+    let mut found: Option<Found> = None;
+    let mut flows: Vec<i64> = sheet.links.iter().map(|link| -link.capacity).collect();
+    loop {
+        if let Some(total) = total(sheet, &flows) {
+            let list = upward(&walk, &flows);
+            match &mut found {
+                Some(best) if total < best.total => {}
+                Some(best) if total == best.total => {
+                    best.equals += 1;
+                    if list < best.list {
+                        best.list = list;
+                        best.flows = flows.clone();
+                    }
+                }
+                _ => {
+                    found = Some(Found {
+                        total,
+                        equals: 1,
+                        list,
+                        flows: flows.clone(),
+                    });
+                }
+            }
+        }
+        let Some(next) = (0..flows.len()).find(|&i| flows[i] < sheet.links[i].capacity) else {
+            return found;
+        };
+        flows[next] += 1;
+        for (flow, link) in flows.iter_mut().zip(&sheet.links).take(next) {
+            *flow = -link.capacity;
+        }
+    }
+}
+
+/// The total of the given flows; none where a net is not in its member's table.
+fn total(sheet: &Sheet, flows: &[i64]) -> Option<i64> {
+    let mut total = 0;
+    for member in 1..=sheet.n {
+        let mut net = 0;
+        for (link, flow) in sheet.links.iter().zip(flows) {
+            if link.b == member {
+                net += flow;
+            }
+            if link.a == member {
+                net -= flow;
+            }
+        }
+        total += sheet.value(member, net)?;
+    }
+    Some(total)
+}
+
+#[test]
+fn small_markets_clear_as_the_search_says() {
+    let mut impossible = 0;
+    let mut tied = 0;
+    let mut many_tied = 0;
+    let mut negative = 0;
+    let mut closed = 0;
+    let mut idle_missing = 0;
+    let mut in_part = 0;
+    let count = cases("CLEARING_SMALL", 40_000, |random| {
+        let sheet = random_sheet(random);
+        let file = sheet.file(random);
+        let room = 16 * sheet.n + random.pick(&[0, 1, 16, 100]);
+        let found = search(&sheet);
+        let expected = match &found {
+            None => Err((12, 0)),
+            Some(best) => Ok(sheet.answer(&best.flows).expect("a possible allocation")),
+        };
+        let result = cleared(&file, room, random);
+        assert_eq!(result, expected, "{sheet:?}");
+        let Some(best) = found else {
+            impossible += 1;
+            return;
+        };
+        let part = |(flow, link): (&i64, &Link)| *flow != 0 && flow.abs() < link.capacity;
+        tied += u64::from(best.equals > 1);
+        many_tied += u64::from(best.equals > 10);
+        negative += u64::from(best.total < 0);
+        closed += u64::from(sheet.links.iter().any(|link| link.capacity == 0));
+        idle_missing += u64::from((1..=sheet.n).any(|m| sheet.value(m, 0).is_none()));
+        in_part += u64::from(best.flows.iter().zip(&sheet.links).any(part));
+    });
+    for (seen, what) in [
+        (impossible, "without an allocation"),
+        (tied, "with a tie"),
+        (many_tied, "with more than ten equals"),
+        (negative, "with a negative total"),
+        (closed, "with a closed link"),
+        (idle_missing, "with a member that does not offer 0 units"),
+        (in_part, "with a link used in part"),
+    ] {
+        assert!(seen >= count / 50, "{seen} of {count} markets {what}");
+    }
+}

@@ -1,0 +1,15 @@
+//! The tests over the proved library and its program: `cargo test --release`. What takes long has a
+//! count that an environment variable raises; `common` names them.
+
+mod closely;
+mod common;
+mod dynamic;
+mod examples;
+mod feeder;
+mod files;
+mod large;
+mod listed;
+mod program;
+mod refusals;
+mod small;
+mod typed;
