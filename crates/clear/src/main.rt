@@ -1,0 +1,4 @@
+// Clears the market on standard input.
+fn main() {
+    show::run(libc::STDIN_FILENO);
+}
