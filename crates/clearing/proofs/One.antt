@@ -10,26 +10,19 @@ use Rattle.problem.specs.Problem.{Market}
 use Rattle.problem.proofs.Upward.{best-one}
 use Rattle.problem.proofs.Nets.{nets, nets-zero}
 use Rattle.problem.proofs.Tree.{Tree}
-use Rattle.records.specs.Refusals.{Refusal, _otherwise_}
+use Rattle.records.specs.Refusals.{Refusal}
 use Rattle.records.specs.Market.{marketOf}
 use Rattle.records.specs.Answer.{answerOf}
+use Rattle.records.proofs.Entries.{both-none}
 use Rattle.market.specs.Refusals.{faultOf}
 use Rattle.market.proofs.Sound.{sound-tree}
 use Rattle.clearing.specs.Promise.{refusalOf, code, Result}
 use Rattle.clearing.specs.Promise.Result.{refused, nothing, cleared}
 
 -- where nothing is refused up to 11, nothing is up to 10
-first-none : (o p : Option Refusal) → o otherwise p ≡ none → o ≡ none
-unfolding _otherwise_
-first-none none p e = refl
-first-none (some r) p e = let z : _≡_ {A = ℕ} 0 1 = cc in absurd (no z)
-  where
-    no : _≡_ {A = ℕ} 0 1 → ⊥
-    no z = omega arith
-
 pub no-fault : (file : List ℕ) (room : ℕ) → refusalOf file room ≡ none → faultOf file ≡ none
 unfolding refusalOf
-no-fault file room e = first-none (faultOf file) _ e
+no-fault file room e = both-none (faultOf file) _ e .0
 
 pub tree-if : (file : List ℕ) (room : ℕ) → refusalOf file room ≡ none → Tree (marketOf file)
 tree-if file room e = sound-tree file (no-fault file room e)

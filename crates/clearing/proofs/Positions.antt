@@ -1,36 +1,32 @@
 -- The arrays that the code holds of a sound file are, as a walk form, the form of the file's market. Assumes nothing.
 use mathlib.Core.Path.{_≡_, refl, sym, ap, ap₂, _∙_, fun-ext, subst}
-use mathlib.Core.Logic.{_⊎_, inl, inr}
+use mathlib.Core.Logic.{inl, inr}
 use mathlib.Core.Bool.{Bool, true, false, cond}
 use mathlib.Core.List.{List, [], _∷_}
 use mathlib.Core.Option.{none}
 use Prim.Native.Nat.{ℕ, zero, suc, _+_, _-_, _/_, _≤_, _<_}
-use native.Mathlib.Nat.{not-suc-le-zero}
 use native.Mathlib.Omega.{arith}
-use lib.Dec.{eqb, ltb}
+use lib.Dec.{ltb}
 use lib.ListN.{length, getD, take, List·getD-eq-default}
 use lib.Seq.{getD-take, length-take-le}
 use lib.IntN.{pos, _-ℤ_}
 use borrow.Author.Tests.{ne-eqb, ltb-true, ltb-false, lt-ltb, le-ltb}
-use Rattle.numbers.proofs.Tests.{true-false, or-true}
-use Rattle.problem.specs.Problem.{Link, Market, Stop, joins, value, walk}
+use Rattle.problem.specs.Problem.{Link, Market, joins, value, walk}
 use Rattle.problem.proofs.Tree.{Tree, Within}
 use Rattle.problem.proofs.Links.{Ends, joins-ends}
 use Rattle.problem.proofs.Max.{pick}
 use Rattle.problem.proofs.Form.{Walk}
 use Rattle.problem.proofs.Prices.{cellOf}
-use Rattle.problem.proofs.Transfer.{around}
 use Rattle.problem.proofs.Steps.{Hop, atPos, walk-walked}
 use Rattle.problem.proofs.Places.{fromPos}
 use Rattle.problem.proofs.Arrange.{linkAt, placeOf, stops, parent, member, linkOf, member-in, one-fewer, rising}
 use Rattle.problem.proofs.Cleared.{upOf, downOf, cap-both, form}
 use Rattle.problem.proofs.Cleared as C
-use Rattle.problem.proofs.Store.{walkOf, Shape, Bounded, Feed}
+use Rattle.problem.proofs.Store.{walkOf, Feed}
 use Rattle.records.specs.Records.{Entry, entries, entriesFrom, entryAt}
 use Rattle.records.specs.Records.Entry.{link, offer, fault}
-use Rattle.records.specs.Market.{membersOf, linksOf, offersOf, marketOf}
+use Rattle.records.specs.Market.{linksOf, marketOf}
 use Rattle.records.proofs.Entries.{Fits, entry-fits}
-use Rattle.market.specs.Refusals.{faultOf}
 use Rattle.market.specs.Feeder.{memberAt, fromAt, positionOf, capacityOf, places, built}
 use Rattle.market.specs.declared.Feeder.{Feeder}
 use Rattle.market.proofs.Top.{members-few}

@@ -1,6 +1,5 @@
 -- What the engine's answer means for the market of a sound file. Assumes nothing.
 use mathlib.Core.Path.{_≡_, refl, sym, ap, ap₂, _∙_, subst}
-use mathlib.Core.Bool.{Bool}
 use mathlib.Core.List.{List, _++_}
 use mathlib.Core.Option.{Option, none, some}
 use Prim.Native.Nat.{ℕ, suc, _+_, _-_, _*_, _≤_, _<_}
@@ -8,13 +7,13 @@ use native.Mathlib.Omega.{arith}
 use lib.ListN.{length, getD, take, drop}
 use lib.IntN.{ℤ, pos, _-ℤ_}
 use borrow.Author.Tests.{lt-ltb, le-ltb}
-use Rattle.problem.specs.Problem.{Market, Impossible, Best}
+use Rattle.problem.specs.Problem.{Market}
 use Rattle.problem.proofs.Form.{Walk, run, picks}
 use Rattle.problem.proofs.Answer.{start}
 use Rattle.problem.proofs.Closed.{indices}
 use Rattle.problem.proofs.Prices.{Priced}
 use Rattle.problem.proofs.Arrange.{one-fewer}
-use Rattle.problem.proofs.Cleared.{form, choices, flowsOf, clear-none, clear-some}
+use Rattle.problem.proofs.Cleared.{choices, flowsOf, clear-none, clear-some}
 use Rattle.problem.proofs.Cleared as C
 use Rattle.problem.proofs.Store.{walkOf}
 use Rattle.records.specs.Refusals.{Refusal, refusal, _otherwise_, placeIf}

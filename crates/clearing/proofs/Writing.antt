@@ -1,28 +1,24 @@
 -- What the writer of the answer asks, from what the engine leaves. Assumes nothing.
 use mathlib.Core.Path.{_≡_, refl, sym, ap, ap₂, _∙_, subst}
-use mathlib.Core.List.{List, [], _∷_, _++_}
-use Prim.Native.Nat.{ℕ, zero, suc, _+_, _-_, _*_, _≤_, _<_}
+use mathlib.Core.List.{List}
+use Prim.Native.Nat.{ℕ, suc, _+_, _-_, _*_, _≤_, _<_}
 use native.Mathlib.Nat.{add-zero, add-suc, suc-add}
 use native.Mathlib.Numerals.{one-add}
 use native.Mathlib.Omega.{arith}
-use lib.ListN.{length, getD, take}
+use lib.ListN.{length, getD}
 use lib.Seq.{getD-take}
 use lib.IntN.{ℤ, pos, _-ℤ_}
-use Rattle.problem.proofs.Tree.{Tree}
-use Rattle.problem.proofs.Onto.{Apart}
 use Rattle.problem.proofs.Form.{Walk, Rising, Fits, fits-nil, fits-cons, step, run}
 use Rattle.problem.proofs.Answer.{start}
 use Rattle.problem.proofs.Closed.{indices}
-use Rattle.problem.proofs.Facts.{fits-length}
-use Rattle.problem.proofs.Prices.{Priced, cellOf}
+use Rattle.problem.proofs.Prices.{Priced}
 use Rattle.problem.proofs.Reach.{reach, Within, step-within}
 use Rattle.problem.proofs.Table.{tab, tab-bound, reach-most}
-use Rattle.problem.proofs.Arrange.{member, ordOf, placeIn, ord-suc, one-fewer, arranged, rising, linkAt, linkOf}
+use Rattle.problem.proofs.Arrange.{member, ordOf, placeIn, one-fewer, arranged, rising}
 use Rattle.problem.proofs.Flows.{tab-length}
 use Rattle.problem.proofs.Cleared.{form, choices, flowsOf, choices-fit, cap-both}
 use Rattle.problem.proofs.Cleared as C
-use Rattle.records.specs.Records.{entries}
-use Rattle.records.specs.Market.{offersOf, marketOf}
+use Rattle.records.specs.Market.{marketOf}
 use Rattle.records.proofs.Carried.{Fitting, Prepared, linksBy, prepared-room}
 use Rattle.records.proofs.Settled.{towardOf, sentOf, ByMember, fitting, settled}
 use Rattle.rows.proofs.Gives.{priced, cell-bound}

@@ -6,8 +6,9 @@ use Prim.Native.Nat.{ℕ}
 use native.Mathlib.Omega.{arith}
 use Rattle.problem.proofs.Tree.{Tree}
 use Rattle.records.specs.Records.{entries}
-use Rattle.records.specs.Refusals.{Refusal, refusal, _otherwise_, unsound}
+use Rattle.records.specs.Refusals.{Refusal, refusal, unsound}
 use Rattle.records.specs.Market.{marketOf}
+use Rattle.records.proofs.Entries.{both-none}
 use Rattle.market.specs.Refusals.{firstRecord, noOffer, without, tooMany, repeats, closes, apart, faultOf}
 use Rattle.market.proofs.Checked.{some-member}
 use Rattle.market.proofs.Ringless.{ringless}
@@ -15,12 +16,6 @@ use Rattle.market.proofs.Trees.{tree-of}
 
 given : {r : Refusal} → some r ≡ none → ⊥
 given q = let z : _≡_ {A = ℕ} 0 1 = cc in omega arith
-
--- none of two is none of either
-pub neither : (o p : Option Refusal) → o otherwise p ≡ none → (o ≡ none) × (p ≡ none)
-unfolding _otherwise_
-neither none p e = (refl, e)
-neither (some r) p e = (e, absurd (given e))
 
 -- a refusal that is not given has no place
 unplaced : (k : ℕ) (o : Option ℕ) → refusal k o ≡ none → o ≡ none
@@ -38,12 +33,12 @@ pub record Passed (f : List ℕ) : Type 0 where
 pub passed : (f : List ℕ) → faultOf f ≡ none → Passed f
 unfolding faultOf
 passed f e =
-    let p = neither (unsound f) _ e in
-    let p5 = neither (refusal 5 (noOffer (marketOf f))) _ (p .1) in
-    let p6 = neither (refusal 6 (without (marketOf f))) _ (p5 .1) in
-    let p7 = neither (refusal 7 (tooMany (marketOf f))) _ (p6 .1) in
-    let p8 = neither (refusal 8 (firstRecord repeats 0 [] (entries f))) _ (p7 .1) in
-    let p9 = neither (refusal 9 (firstRecord closes 0 [] (entries f))) (refusal 10 (apart (marketOf f))) (p8 .1) in
+    let p = both-none (unsound f) _ e in
+    let p5 = both-none (refusal 5 (noOffer (marketOf f))) _ (p .1) in
+    let p6 = both-none (refusal 6 (without (marketOf f))) _ (p5 .1) in
+    let p7 = both-none (refusal 7 (tooMany (marketOf f))) _ (p6 .1) in
+    let p8 = both-none (refusal 8 (firstRecord repeats 0 [] (entries f))) _ (p7 .1) in
+    let p9 = both-none (refusal 9 (firstRecord closes 0 [] (entries f))) (refusal 10 (apart (marketOf f))) (p8 .1) in
     record {
       read = p .0;
       offers = unplaced 5 (noOffer (marketOf f)) (p5 .0);

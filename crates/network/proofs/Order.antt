@@ -1,28 +1,26 @@
 -- The walk over masks: what the code computes, and that it is the walk.
-use mathlib.Core.Path.{_≡_, refl, sym, ap, ap₂, _∙_, subst, subst₂}
-use mathlib.Core.Logic.{_⊎_, inl, inr, _↔_}
+use mathlib.Core.Path.{_≡_, refl, sym, ap, ap₂, _∙_, subst}
+use mathlib.Core.Logic.{_⊎_, inl, inr}
 use mathlib.Core.Bool.{Bool, true, false, not, _&&_, _||_}
-use mathlib.Core.List.{List, [], _∷_}
+use mathlib.Core.List.{List, _∷_}
 use mathlib.Core.Option.{Option, none, some}
-use Prim.Native.Nat.{ℕ, zero, suc, _+_, _-_, _*_, _^_, _≤_, _<_, zero-le}
-use native.Mathlib.Nat.{not-suc-le-zero, le-refl, le-trans, lt-of-le-of-lt, zero-add, suc-add}
-use native.Mathlib.Numerals.{add-one}
+use Prim.Native.Nat.{ℕ, zero, suc, _+_, _-_, _^_, _≤_, _<_}
+use native.Mathlib.Nat.{le-refl, lt-of-le-of-lt}
 use native.Mathlib.Omega.{arith}
 use lib.ListN.{length, getD, set}
 use lib.Seq.{getD-set-same, getD-set-other}
 use lib.Dec.{eqb, ltb, lit<}
 use lib.Bits.{bitAnd, bitOr, and-le-r, or-lt}
 use lib.Pow.{ones-sub-lt, pow-lt}
-use lib.Count.{trailingZeros, trailing-le}
-use borrow.Author.Tests.{eqb-true, eqb-false, eq-eqb, ne-eqb, ltb-true, ltb-false, lt-ltb, le-ltb}
-use Rattle.network.proofs.Bit.{bit, bit-none, holds, holds-and, holds-or, holds-not, holds-one, holds-none, trailing-holds, trailing-clear, trailing-inside}
+use lib.Count.{trailingZeros}
+use borrow.Author.Tests.{eq-eqb, ne-eqb, ltb-true, lt-ltb}
+use Rattle.network.proofs.Bit.{holds, holds-and, holds-or, holds-not, holds-one, holds-none, trailing-holds, trailing-clear, trailing-inside}
 use Rattle.problem.specs.Problem.{Link, neighbours, lowest}
 use Rattle.problem.proofs.Tree.{Within}
-use Rattle.problem.proofs.Max.{pick}
-use Rattle.problem.proofs.Count.{same?, either, lowest-is, lowest-le, lowest-hit}
+use Rattle.problem.proofs.Count.{same?, either, lowest-is, lowest-hit}
 use Rattle.numbers.proofs.Tests.{true-false, and-true}
 use Rattle.problem.proofs.Links.{neighbours-in}
-use Rattle.problem.proofs.Steps.{Hop, Walked, atPos, at-before, at-latest, at-in, walk-room, reached, free, orElse, onFrom, extend, hops, walk-walked, Finished, some-inj, not-some, on-fresh, unseen-count, unseen}
+use Rattle.problem.proofs.Steps.{Hop, Walked, atPos, at-before, at-latest, at-in, walk-room, reached, free, orElse, onFrom, hops, walk-walked, Finished, some-inj, not-some, on-fresh}
 use Rattle.problem.proofs.Places.{fromPos, from-before, from-latest}
 use Rattle.problem.proofs.Branch.{walk-more, walk-stays}
 

@@ -1,14 +1,13 @@
 -- Laws on a file's records: what is left from a place on, what a reading says of its record, which numbers a record has,
 -- and what a sound file's records are. Assumes nothing.
 use mathlib.Core.Path.{_≡_, refl, sym, ap, _∙_}
-use mathlib.Core.Bool.{Bool, true, false, not, cond, _&&_}
+use mathlib.Core.Bool.{Bool, true, false, cond, _&&_}
 use mathlib.Core.List.{List, [], _∷_}
 use mathlib.Core.Logic.{⊎-elim}
 use mathlib.Core.Option.{Option, none, some}
-use Prim.Native.Nat.{ℕ, zero, suc, _+_, _-_, _/_, _%_, _<_, _≤_}
+use Prim.Native.Nat.{ℕ, suc, _+_, _-_, _<_, _≤_}
 use native.Mathlib.Omega.{arith}
 use native.Mathlib.Numerals.{add-one}
-use native.Mathlib.Nat.{add-zero, zero-add}
 use lib.Dec.{leb, ltb, eqb}
 use lib.ListN.{length}
 use lib.IntN.{ℤ, pos, negℤ, natAbs}
@@ -17,7 +16,7 @@ use mir.Syntax.{w16, w32}
 use mir.Val.{toZ}
 use types.Run.{OneOf}
 use denote.Enum.Declared.{tagOf}
-use borrow.Author.Tests.{leb-true, ltb-true, ltb-false, eqb-true, not-false}
+use borrow.Author.Tests.{leb-true, ltb-true, ltb-false}
 use Rattle.numbers.specs.Whole.{within}
 use Rattle.numbers.specs.declared.Member.{Member}
 use Rattle.numbers.specs.declared.Units.{Units}
@@ -26,9 +25,9 @@ use Rattle.numbers.proofs.Tests.{bool-cases, and-true, within-true}
 use Rattle.problem.specs.Problem.{Link, Offer}
 use Rattle.records.specs.declared.Reading.{Reading}
 use Rattle.records.specs.declared.Reading.the-variants as Reading
-use Rattle.records.specs.Records.{Entry, byte, two, four, linkOf, offerOf, entryAt, entriesFrom, entries}
+use Rattle.records.specs.Records.{Entry, byte, two, four, linkOf, offerOf, entryAt, entriesFrom}
 use Rattle.records.specs.Records.Entry.{link, offer, fault}
-use Rattle.records.specs.Refusals.{Refusal, refusal, _otherwise_, placeIf, fileLimit, tooLong, notWhole, faulty, unsound}
+use Rattle.records.specs.Refusals.{Refusal, refusal, _otherwise_, placeIf, fileLimit, tooLong, faulty, unsound}
 use Rattle.records.specs.Cases.{readingOf}
 use Rattle.records.proofs.Reading.{the-type}
 
@@ -193,8 +192,10 @@ module _ (f : List ℕ) (i n : ℕ) where
     pub no-fault-here : OneOf (0 ∷ 1 ∷ []) (tagOf the-type r) → faulty i (entriesFrom f i (n - i)) ≡ faulty (i + 1) (entriesFrom f (i + 1) (n - (i + 1)))
     no-fault-here t = rw (rest f i n h) (faulty-on i (entryAt f i) _ (not-fault r (entryAt f i) is t))
 
--- ---- a sound file: short, of whole records, and without a fault
-both-none : (g h : Option Refusal) → g otherwise h ≡ none → (g ≡ none) × (h ≡ none)
+-- ---- a sound file is short
+
+-- where neither of two is given
+pub both-none : (g h : Option Refusal) → g otherwise h ≡ none → (g ≡ none) × (h ≡ none)
 unfolding _otherwise_
 both-none none h e = (refl, e)
 both-none (some x) h e = let z : _≡_ {A = ℕ} 0 1 = cc (e) in absurd (omega arith)
@@ -204,33 +205,6 @@ unfolding refusal placeIf
 test-fails k true p e = let z : _≡_ {A = ℕ} 0 1 = cc (e) in absurd (omega arith)
 test-fails k false p e = refl
 
-none-from : (f : List ℕ) (i n j k : ℕ) → faulty i (entriesFrom f i n) ≡ none → j < n → entryAt f (i + j) ≡ fault k → ⊥
-unfolding entriesFrom
-none-from f i zero j k e h q = omega arith
-none-from f i (suc n) zero k e h q = faulty-none i (entryAt f i) (entriesFrom f (suc i) n) e k (rw (add-zero i) at q)
-none-from f i (suc n) (suc j) k e h q =
-    none-from f (suc i) n j k
-    (rw (add-one i) at (sym (faulty-on i (entryAt f i) (entriesFrom f (suc i) n) (faulty-none i (entryAt f i) (entriesFrom f (suc i) n) e)) ∙ e))
-    (omega arith) (rw (shifted) at q)
-  where
-    shifted : i + suc j ≡ suc i + j
-    shifted = omega arith
-
-module _ (f : List ℕ) (e : unsound f ≡ none) where
-  parts : (refusal 1 (tooLong f) ≡ none) × ((refusal 2 (notWhole f) ≡ none) × (faulty 0 (entries f) ≡ none))
-  unfolding unsound
-  parts =
-      let p = both-none (refusal 1 (tooLong f)) (refusal 2 (notWhole f) otherwise faulty 0 (entries f)) e in
-      (p .0, both-none (refusal 2 (notWhole f)) (faulty 0 (entries f)) (p .1))
-
-  pub sound-short : length f ≤ 16632
-  unfolding tooLong
-  sound-short = ltb-false fileLimit (length f) (test-fails 1 (ltb fileLimit (length f)) 0 (parts .0))
-
-  pub sound-whole : length f % 8 ≡ 0
-  unfolding notWhole
-  sound-whole = eqb-true (length f % 8) 0 (not-false (eqb (length f % 8) 0) (test-fails 2 (not (eqb (length f % 8) 0)) 0 (parts .1 .0)))
-
-  pub sound-at : (i : ℕ) → i < length f / 8 → (k : ℕ) → entryAt f i ≡ fault k → ⊥
-  unfolding entries
-  sound-at i h k q = none-from f 0 (length f / 8) i k (parts .1 .1) h (rw (zero-add i) q)
+pub sound-short : (f : List ℕ) → unsound f ≡ none → length f ≤ 16632
+unfolding unsound tooLong
+sound-short f e = ltb-false fileLimit (length f) (test-fails 1 (ltb fileLimit (length f)) 0 (both-none (refusal 1 (tooLong f)) _ e .0))

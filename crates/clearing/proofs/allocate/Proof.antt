@@ -1,9 +1,7 @@
 -- `allocate` meets its contract: the engine's cell and choices are the market's. Assumes nothing.
 use borrow.Author.Needs.{needs}
-use mathlib.Core.Path.{_≡_, sym, subst}
-use mathlib.Core.List.{List}
-use Prim.Native.Nat.{ℕ, _*_}
-use native.Mathlib.Omega.{arith}
+use mathlib.Core.Path.{sym, subst}
+use Prim.Native.Nat.{ℕ}
 use Rattle.clearing.specs.Promise.{Result}
 use Rattle.clearing.proofs.Solved.{chosen, nothing-result, cleared-result}
 use Rattle.clearing.proofs.allocate.Statement.{statement}

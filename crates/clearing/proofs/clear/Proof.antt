@@ -1,12 +1,11 @@
 -- `clear` meets its contract: refusals 1 to 11 leave the area as it was, and a sound file is settled. Assumes nothing.
 use borrow.Author.Needs.{needs}
-use mathlib.Core.Path.{_≡_, refl, sym, ap, _∙_, subst}
+use mathlib.Core.Path.{_≡_, sym, ap, _∙_, subst}
 use mathlib.Core.List.{List}
-use mathlib.Core.Option.{none, some}
-use Prim.Native.Nat.{ℕ, _*_, _≤_}
+use mathlib.Core.Option.{none}
+use Prim.Native.Nat.{ℕ, _*_}
 use native.Mathlib.Omega.{arith}
 use lib.ListN.{length}
-use Rattle.records.specs.Refusals.{Refusal}
 use Rattle.records.specs.Market.{marketOf}
 use Rattle.market.specs.Refusals.{faultOf}
 use Rattle.market.proofs.Checked.{verdict-some, verdict-none}

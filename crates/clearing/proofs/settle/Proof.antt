@@ -1,14 +1,12 @@
 -- `settle` meets its contract: the feeder's arrays are the market's. Assumes nothing.
 use borrow.Author.Needs.{needs}
-use mathlib.Core.Path.{_≡_, refl, sym, ap, _∙_, subst}
+use mathlib.Core.Path.{_≡_, sym, ap, _∙_, subst}
 use mathlib.Core.List.{List}
 use mathlib.Core.Option.{none}
-use Prim.Native.Nat.{ℕ, _*_, _≤_}
+use Prim.Native.Nat.{ℕ, _≤_}
 use native.Mathlib.Omega.{arith}
 use lib.ListN.{length, getD, take}
 use lib.Seq.{length-take-le}
-use Rattle.records.specs.Market.{marketOf}
-use Rattle.market.specs.Refusals.{faultOf}
 use Rattle.market.specs.Feeder.{built, feederOf}
 use Rattle.market.specs.declared.Feeder.{Feeder}
 use Rattle.market.proofs.Sound.{sound-tree}

@@ -1,10 +1,9 @@
 -- `toward_by_member` meets its contract. Assumes nothing.
 use borrow.Author.Needs.{needs}
-use mathlib.Core.Path.{_≡_, refl, sym, ap, _∙_}
-use mathlib.Core.List.{List}
-use Prim.Native.Nat.{ℕ, _+_, _-_, _≤_, _<_}
+use mathlib.Core.Path.{refl}
+use Prim.Native.Nat.{_-_, _≤_}
 use native.Mathlib.Omega.{arith}
-use lib.ListN.{length, getD}
+use lib.ListN.{length}
 use Rattle.records.proofs.Settled.{towardOf}
 use Rattle.clearing.proofs.Spread.{Spread, spread-first, spread-more, toward-next}
 use Rattle.clearing.proofs.members.toward_by_member.Statement.{statement}
