@@ -26,13 +26,15 @@ pub enum Verdict {
     Refused(u8, u16),
 }
 
-fn two(low: u8, high: u8) -> u16
+// 16 bits, low byte first.
+pub fn two(low: u8, high: u8) -> u16
     ensures { λ r. ⌜ r ≡ low + 256 * high ⌝ }
 {
     low as u16 + 256 * (high as u16)
 }
 
-fn four(a: u8, b: u8, c: u8, d: u8) -> u32
+// 32 bits, low byte first.
+pub fn four(a: u8, b: u8, c: u8, d: u8) -> u32
     ensures { λ r. ⌜ r ≡ a + 256 * b + 65536 * c + 16777216 * d ⌝ }
 {
     a as u32 + 256 * (b as u32) + 65536 * (c as u32) + 16777216 * (d as u32)

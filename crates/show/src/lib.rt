@@ -1,18 +1,12 @@
 // Clears one market and prints the lines of its answer, or the line of its refusal.
 use numbers::Price;
 use numbers::Units;
+use records::four;
+use records::two;
 
 // A byte of a record; past its end, 0.
 fn byte(record: &[u8], i: usize) -> u8 {
     if i < record.len() { record[i] } else { 0 }
-}
-
-fn two(low: u8, high: u8) -> u16 {
-    low as u16 + 256 * (high as u16)
-}
-
-fn four(a: u8, b: u8, c: u8, d: u8) -> u32 {
-    a as u32 + 256 * (b as u32) + 65536 * (c as u32) + 16777216 * (d as u32)
 }
 
 // A blank and the member that a byte numbers.
