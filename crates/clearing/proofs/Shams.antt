@@ -42,11 +42,11 @@ unfolding starred W.B bytes
 B-clears = all-right .1 .0 .1
 
 A-sound : faultOf (W.A .file) ≡ none
-unfolding W.A W.chain W.bytes N.eqZ N.within P.lowest P.joined B.linkOf B.offerOf B.entryAt B.entriesFrom B.entries R.refusal R._otherwise_ R.placeIf R.tooLong R.notWhole R.faulty R.unsound M.membersOf M.linksOf M.offersOf M.marketOf F.lowestMember F.firstRecord F.offersBy F.offered F.noOffer F.without F.tooMany F.repeats F.closes F.apart F.faultOf
+unfolding W.A W.chain W.bytes N.eqZ N.within P.lowest P.joined B.linkOf B.offerOf B.entryAt B.entriesFrom B.entries R.refusal R._otherwise_ R.placeIf R.tooLong R.notWhole R.faulty R.unsound M.membersOf M.linksOf M.offersOf M.marketOf F.lowestMember F.firstRecord F.offersBy F.noOffer F.without F.tooMany F.closes F.apart F.faultOf
 A-sound = refl
 
 B-sound : faultOf (W.B .file) ≡ none
-unfolding W.B W.chain W.bytes N.eqZ N.within P.lowest P.joined B.linkOf B.offerOf B.entryAt B.entriesFrom B.entries R.refusal R._otherwise_ R.placeIf R.tooLong R.notWhole R.faulty R.unsound M.membersOf M.linksOf M.offersOf M.marketOf F.lowestMember F.firstRecord F.offersBy F.offered F.noOffer F.without F.tooMany F.repeats F.closes F.apart F.faultOf
+unfolding W.B W.chain W.bytes N.eqZ N.within P.lowest P.joined B.linkOf B.offerOf B.entryAt B.entriesFrom B.entries R.refusal R._otherwise_ R.placeIf R.tooLong R.notWhole R.faulty R.unsound M.membersOf M.linksOf M.offersOf M.marketOf F.lowestMember F.firstRecord F.offersBy F.noOffer F.without F.tooMany F.closes F.apart F.faultOf
 B-sound = refl
 
 A-members : marketOf (W.A .file) .members ≡ 3

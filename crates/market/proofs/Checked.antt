@@ -22,7 +22,7 @@ use Rattle.records.proofs.Verdict.{the-type}
 use Rattle.records.proofs.Entries.{Fits, entry-fits}
 use Rattle.market.specs.declared.Place.{Place}
 use Rattle.market.specs.declared.Place.the-variants as Place
-use Rattle.market.specs.Refusals.{firstRecord, noOffer, without, tooMany, repeats, closes, apart, faultOf}
+use Rattle.market.specs.Refusals.{firstRecord, noOffer, without, tooMany, closes, apart, faultOf}
 use Rattle.market.specs.Cases.{placeOf}
 use Rattle.market.specs.Feeder.{built, feederOf}
 use Rattle.market.proofs.Place as place
@@ -84,18 +84,13 @@ module _ (f : List ℕ) (s : unsound f ≡ none) where
       refused-7 p e = rw (s, o, w, e)
 
       module _ (t : tooMany (marketOf f) ≡ none) where
-        pub refused-8 : (p : ℕ) → firstRecord repeats 0 [] (entries f) ≡ some p → faultOf f ≡ some (record { number = 8; place = p })
+        pub refused-9 : (p : ℕ) → firstRecord closes 0 [] (entries f) ≡ some p → faultOf f ≡ some (record { number = 9; place = p })
         unfolding faultOf _otherwise_ refusal
-        refused-8 p e = rw (s, o, w, t, e)
+        refused-9 p e = rw (s, o, w, t, e)
 
-        module _ (d : firstRecord repeats 0 [] (entries f) ≡ none) where
-          pub refused-9 : (p : ℕ) → firstRecord closes 0 [] (entries f) ≡ some p → faultOf f ≡ some (record { number = 9; place = p })
-          unfolding faultOf _otherwise_ refusal
-          refused-9 p e = rw (s, o, w, t, d, e)
-
-          pub only-10 : firstRecord closes 0 [] (entries f) ≡ none → built f (refusal 10 (apart (marketOf f))) ≡ feederOf f
-          unfolding feederOf faultOf _otherwise_ refusal
-          only-10 e = rw (s, o, w, t, d, e)
+        pub only-10 : firstRecord closes 0 [] (entries f) ≡ none → built f (refusal 10 (apart (marketOf f))) ≡ feederOf f
+        unfolding feederOf faultOf _otherwise_ refusal
+        only-10 e = rw (s, o, w, t, e)
 
 -- ---- a file with an offer has a member
 

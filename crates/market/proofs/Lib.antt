@@ -1,5 +1,6 @@
 pub mod Passes
 pub mod Top
+pub mod Tabled
 pub mod Tables
 pub mod Looked
 pub mod Scan

@@ -9,7 +9,7 @@ use Rattle.records.specs.Records.{entries}
 use Rattle.records.specs.Refusals.{Refusal, refusal, unsound}
 use Rattle.records.specs.Market.{marketOf}
 use Rattle.records.proofs.Entries.{both-none}
-use Rattle.market.specs.Refusals.{firstRecord, noOffer, without, tooMany, repeats, closes, apart, faultOf}
+use Rattle.market.specs.Refusals.{firstRecord, noOffer, without, tooMany, closes, apart, faultOf}
 use Rattle.market.proofs.Checked.{some-member}
 use Rattle.market.proofs.Ringless.{ringless}
 use Rattle.market.proofs.Trees.{tree-of}
@@ -37,8 +37,7 @@ passed f e =
     let p5 = both-none (refusal 5 (noOffer (marketOf f))) _ (p .1) in
     let p6 = both-none (refusal 6 (without (marketOf f))) _ (p5 .1) in
     let p7 = both-none (refusal 7 (tooMany (marketOf f))) _ (p6 .1) in
-    let p8 = both-none (refusal 8 (firstRecord repeats 0 [] (entries f))) _ (p7 .1) in
-    let p9 = both-none (refusal 9 (firstRecord closes 0 [] (entries f))) (refusal 10 (apart (marketOf f))) (p8 .1) in
+    let p9 = both-none (refusal 9 (firstRecord closes 0 [] (entries f))) (refusal 10 (apart (marketOf f))) (p7 .1) in
     record {
       read = p .0;
       offers = unplaced 5 (noOffer (marketOf f)) (p5 .0);

@@ -1,4 +1,4 @@
--- The offers among a file's records: a pass over the file, and the records before one, turn by turn. Assumes nothing.
+-- The offers among a file's records: a pass over the file, turn by turn. Assumes nothing.
 use mathlib.Core.Path.{_≡_, refl, sym, ap, _∙_}
 use mathlib.Core.Bool.{Bool, true, false, cond}
 use mathlib.Core.List.{List, [], _∷_}
@@ -12,7 +12,6 @@ use lib.Seq.{getD-set-same, getD-set-other}
 use types.Run.{OneOf}
 use denote.Enum.Declared.{tagOf}
 use borrow.Author.Tests.{ne-eqb}
-use Rattle.numbers.specs.Whole.{eqZ}
 use Rattle.numbers.specs.declared.Member.{Member}
 use Rattle.numbers.specs.declared.Units.{Units}
 use Rattle.numbers.specs.declared.Price.{Price}
@@ -25,9 +24,8 @@ use Rattle.records.specs.Records.Entry.{link, offer, fault}
 use Rattle.records.specs.Cases.{readingOf}
 use Rattle.records.specs.Market.{offersOf}
 use Rattle.records.proofs.Reading.{the-type}
-use Rattle.records.proofs.Earlier.{earlier}
 use Rattle.records.proofs.Entries.{rest, ended, offer-is, not-offer, Fits, entry-fits}
-use Rattle.market.specs.Refusals.{offersBy, offered, repeats}
+use Rattle.market.specs.Refusals.{offersBy}
 
 -- the offer that a reading is
 abbrev pub theOffer : Member → Units → Price → Offer
@@ -49,18 +47,10 @@ module _ (e : Entry) (es : List Entry) (r : Reading) (is : r ≡ readingOf e) wh
     unfolding offersOf
     skip = no-offer (λ x. offersOf (x ∷ es) ≡ offersOf es) (λ l. refl) (λ k. refl) e (not-offer r e is t)
 
-    pub repeats-none : repeats es e ≡ false
-    unfolding repeats
-    repeats-none = no-offer (λ x. repeats es x ≡ false) (λ l. refl) (λ k. refl) e (not-offer r e is t)
-
   module _ (m : Member) (u : Units) (p : Price) (o : r ≡ Reading.Offer m u p) where
     take : offersOf (e ∷ es) ≡ theOffer m u p ∷ offersOf es
     unfolding offersOf
     take = rw (offer-is e m u p (sym is ∙ o))
-
-    pub repeats-offer : repeats es e ≡ offered (theOffer m u p) (offersOf es)
-    unfolding repeats
-    repeats-offer = rw (offer-is e m u p (sym is ∙ o))
 
 -- ---- an offer's member, as it is read
 pub offer-member : (f : List ℕ) (i : ℕ) (r : Reading) → r ≡ readingOf (entryAt f i) → (m : Member) (u : Units) (p : Price) → r ≡ Reading.Offer m u p
@@ -86,41 +76,6 @@ module _ (f : List ℕ) (n i : ℕ) where
 pub offers-start : (f : List ℕ) → offersOf (entries f) ≡ offersOf (entriesFrom f 0 (length f / 8 - 0))
 unfolding entries
 offers-start f = rw (sub-zero (length f / 8))
-
--- ---- back over the records before record k, the latest first
-latest : (f : List ℕ) (k : ℕ) → 0 < k → earlier f k ≡ entryAt f (k - 1) ∷ earlier f (k - 1)
-unfolding earlier
-latest f zero h = absurd (omega arith)
-latest f (suc k) h = rw (one-less)
-  where
-    one-less : suc k - 1 ≡ k
-    one-less = omega arith
-
-pub back-none : (q : Offer) (f : List ℕ) (k : ℕ) → k ≤ 0 → offered q (offersOf (earlier f k)) ≡ false
-unfolding offered offersOf earlier
-back-none q f zero h = refl
-back-none q f (suc k) h = absurd (omega arith)
-
-module _ (q : Offer) (f : List ℕ) (k : ℕ) (h : 0 < k) (r : Reading) (is : r ≡ readingOf (entryAt f (k - 1))) where
-  pub back-skip : OneOf (0 ∷ 2 ∷ []) (tagOf the-type r) → offered q (offersOf (earlier f k)) ≡ offered q (offersOf (earlier f (k - 1)))
-  back-skip t = ap (offered q) (ap offersOf (latest f k h) ∙ skip _ _ r is t)
-
-  module _ (m : Member) (u : Units) (p : Price) (o : r ≡ Reading.Offer m u p) where
-    reached : offered q (offersOf (earlier f k)) ≡ offered q (theOffer m u p ∷ offersOf (earlier f (k - 1)))
-    reached = ap (offered q) (ap offersOf (latest f k h) ∙ take _ _ r is m u p o)
-
-    pub other-member : eqb (q .member) (m .0) ≡ false → offered q (offersOf (earlier f k)) ≡ offered q (offersOf (earlier f (k - 1)))
-    unfolding offered
-    other-member a = reached ∙ rw (offered, a)
-
-    module _ (a : eqb (q .member) (m .0) ≡ true) where
-      pub other-units : eqZ (q .units) (u .0) ≡ false → offered q (offersOf (earlier f k)) ≡ offered q (offersOf (earlier f (k - 1)))
-      unfolding offered
-      other-units b = reached ∙ rw (offered, a, b)
-
-      pub same-offer : eqZ (q .units) (u .0) ≡ true → offered q (offersOf (earlier f k)) ≡ true
-      unfolding offered
-      same-offer b = reached ∙ rw (offered, a, b)
 
 -- ---- how many offers each member has
 

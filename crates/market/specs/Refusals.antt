@@ -1,16 +1,15 @@
 -- Document 01, "Refusal numbers, in order of checking": refusals 5 to 10, and the first of 1 to 10 that applies.
-use mathlib.Core.Bool.{Bool, true, false, cond, not, _&&_, _||_}
+use mathlib.Core.Bool.{Bool, true, false, cond, not}
 use mathlib.Core.List.{List, [], _∷_}
 use mathlib.Core.Option.{Option, none, some}
 use Prim.Native.Nat.{ℕ, suc, _+_}
 use lib.Dec.{ltb, eqb}
 use lib.ListN.{length}
-use Rattle.numbers.specs.Whole.{eqZ}
 use Rattle.problem.specs.Problem.{Offer, Market, lowest, joined}
 use Rattle.records.specs.Records.{Entry, entries}
 use Rattle.records.specs.Records.Entry.{link, offer, fault}
 use Rattle.records.specs.Refusals.{Refusal, refusal, _otherwise_, placeIf, unsound}
-use Rattle.records.specs.Market.{linksOf, offersOf, marketOf}
+use Rattle.records.specs.Market.{linksOf, marketOf}
 
 -- the lowest member from 1 to n that passes
 unfoldable pub lowestMember : (ℕ → Bool) → ℕ → Option ℕ
@@ -26,11 +25,6 @@ unfoldable pub offersBy : ℕ → List Offer → ℕ
 offersBy j [] = 0
 offersBy j (o ∷ os) = cond (eqb j (o .member)) 1 0 + offersBy j os
 
--- one of the offers has o's member and units
-unfoldable pub offered : Offer → List Offer → Bool
-offered o [] = false
-offered o (p ∷ os) = (eqb (o .member) (p .member) && eqZ (o .units) (p .units)) || offered o os
-
 -- 5: no offer record
 unfoldable pub noOffer : Market → Option ℕ
 noOffer m = placeIf (eqb (length (m .offers)) 0) 0
@@ -39,15 +33,9 @@ noOffer m = placeIf (eqb (length (m .offers)) 0) 0
 unfoldable pub without : Market → Option ℕ
 without m = lowestMember (λ j. eqb (offersBy j (m .offers)) 0) (m .members)
 
--- 7: a member has more than 64 offers
+-- 7: a member has more than 64 offers, each entry counted, repeated or not
 unfoldable pub tooMany : Market → Option ℕ
 tooMany m = lowestMember (λ j. ltb 64 (offersBy j (m .offers))) (m .members)
-
--- 8: an offer repeats an earlier one's member and units
-unfoldable pub repeats : List Entry → Entry → Bool
-repeats earlier (link l) = false
-repeats earlier (offer o) = offered o (offersOf earlier)
-repeats earlier (fault k) = false
 
 -- 9: a link joins members already joined by earlier links
 unfoldable pub closes : List Entry → Entry → Bool
@@ -59,13 +47,12 @@ closes earlier (fault k) = false
 unfoldable pub apart : Market → Option ℕ
 apart m = lowestMember (λ j. not (joined (m .links) 1 j)) (m .members)
 
--- refusals 1 to 10: the first that applies
+-- refusals 1 to 7, 9 and 10: the first that applies; 8 is not given
 unfoldable pub faultOf : List ℕ → Option Refusal
 faultOf f =
     unsound f
     otherwise refusal 5 (noOffer (marketOf f))
     otherwise refusal 6 (without (marketOf f))
     otherwise refusal 7 (tooMany (marketOf f))
-    otherwise refusal 8 (firstRecord repeats 0 [] (entries f))
     otherwise refusal 9 (firstRecord closes 0 [] (entries f))
     otherwise refusal 10 (apart (marketOf f))

@@ -48,10 +48,6 @@ pub fn market(file: &[u8]) -> Feeder
     if let Place::At(member) = many {
         return order::refused(7, member);
     }
-    let twice = offers::repeated_offer(file);
-    if let Place::At(record) = twice {
-        return order::refused(8, record);
-    }
     let ring = rings::closing_link(file);
     if let Place::At(record) = ring {
         return order::refused(9, record);

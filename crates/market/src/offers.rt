@@ -1,19 +1,16 @@
-// What the offers of a file say against it, refusals 5 to 8, and the number of members that its records name. A record that
+// What the offers of a file say against it, refusals 5 to 7, and the number of members that its records name. A record that
 // is at fault counts for nothing here.
 ghost use mathlib.Core.Path.{_≡_};
 ghost use mathlib.Core.List.{[], _∷_};
 ghost use Prim.Native.Nat.{ℕ, suc, _+_, _*_, _<_, _≤_, max};
 ghost use lib.Dec.{eqb};
 ghost use lib.ListN.{length, getD};
-ghost use lib.IntN.{ℤ};
 ghost use Rattle.records.specs.Records.{entryAt, entries};
 ghost use Rattle.records.specs.Market.{membersOf, offersOf, marketOf};
-ghost use Rattle.records.proofs.Earlier.{earlier};
-ghost use Rattle.market.specs.Refusals.{firstRecord, offersBy, offered, without, tooMany, repeats};
+ghost use Rattle.market.specs.Refusals.{offersBy, without, tooMany};
 ghost use Rattle.market.specs.Cases.{placeOf};
 use crate::Place;
 use numbers::Member;
-use numbers::Units;
 use records::Reading;
 
 fn higher(a: Member, b: Member) -> Member
@@ -120,49 +117,6 @@ pub fn too_many_offers(file: &[u8], n: Member) -> Place
             return Place::At((j + 1) as u16);
         }
         j += 1;
-    }
-    Place::Nowhere
-}
-
-// Whether an offer before record i has the member and the units.
-fn offered_before(file: &[u8], i: usize, member: Member, units: Units) -> bool
-    requires { ⌜ 8 * i ≤ length (now file) ⌝ }
-    ensures { λ r. ⌜ ((p : ℤ) → r ≡ offered (record { member = member .0; units = units .0; price = p }) (offersOf (earlier (now (file .entry)) i))) ⌝ }
-{
-    let mut k = i;
-    while 0 < k {
-        k -= 1;
-        let r = records::read_at(file, k);
-        let Reading::Offer(m, u, _) = r else {
-            continue;
-        };
-        if !member.same(m) {
-            continue;
-        }
-        if units.same(u) {
-            return true;
-        }
-    }
-    false
-}
-
-// Refusal 8: the first offer that repeats an earlier one's member and units.
-pub fn repeated_offer(file: &[u8]) -> Place
-    requires { ⌜ length (now file) ≤ 16632 ⌝ }
-    ensures { λ r. ⌜ r ≡ placeOf (firstRecord repeats 0 [] (entries (now (file .entry)))) ⌝ }
-{
-    let n = file.len() / 8;
-    let mut i = 0;
-    while i < n {
-        let r = records::read_at(file, i);
-        let Reading::Offer(member, units, _) = r else {
-            i += 1;
-            continue;
-        };
-        if offered_before(file, i, member, units) {
-            return Place::At(i as u16);
-        }
-        i += 1;
     }
     Place::Nowhere
 }

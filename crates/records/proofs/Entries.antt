@@ -109,7 +109,7 @@ module _ (r : Reading) (e : Entry) (is : r ≡ readingOf e) where
   unfolding tagged
   not-fault t k h = other 0 1 2 (λ s. omega arith) (λ s. omega arith) t (ap tagged h)
 
--- ---- the numbers of a link and of an offer are in range
+-- ---- the numbers of a link and of an offer are in range, and a fault is refusal 3 or 4
 pub record LinkFits (l : Link) : Type 0 where
   pub low : 1 ≤ l .a
   pub below : l .a < l .b
@@ -127,7 +127,7 @@ pub record OfferFits (o : Offer) : Type 0 where
 abbrev pub Fits : Entry → Type 0
 Fits (link l) = LinkFits l
 Fits (offer o) = OfferFits o
-Fits (fault k) = Unit {0}
+Fits (fault k) = (3 ≤ k) × (k ≤ 4)
 
 either : (t : Bool) (x y : Entry) → (t ≡ true → Fits x) → (t ≡ false → Fits y) → Fits (cond t x y)
 either t x y f g = bool-cases t (λ b. Fits (cond b x y)) f g
@@ -142,7 +142,7 @@ link-fits a b z c y x =
     let e2 = and-true (leb 1 a && ltb a b) (leb b 32) (and-true (leb 1 a && ltb a b && leb b 32) (eqb z 0) (e4 .0) .0) in
     let e1 = and-true (leb 1 a) (ltb a b) (e2 .0) in
     record { low = leb-true 1 a (e1 .0); below = ltb-true a b (e1 .1); high = leb-true b 32 (e2 .1); small = leb-true c 40 (e4 .1) })
-    (λ e. tt)
+    (λ e. (omega arith, omega arith))
 
 offer-fits : (j : ℕ) (u p : ℤ) → Fits (offerOf j u p)
 unfolding offerOf
@@ -155,14 +155,14 @@ offer-fits j u p =
     let us = within-true (negℤ (pos 2000)) (pos 2000) u (e2 .1) in
     let ps = within-true (negℤ (pos 1000000)) (pos 1000000) p (e3 .1) in
     record { low = leb-true 1 j (e1 .0); high = leb-true j 32 (e1 .1); units-from = us .0; units-to = us .1; price-from = ps .0; price-to = ps .1 })
-    (λ e. tt)
+    (λ e. (omega arith, omega arith))
 
 pub entry-fits : (f : List ℕ) (i : ℕ) → Fits (entryAt f i)
 unfolding entryAt
 entry-fits f i =
     either (eqb (byte f i 0) 1) _ _
     (λ e. link-fits (byte f i 1) (byte f i 2) (byte f i 3) (two f i 4) (byte f i 6) (byte f i 7))
-    (λ e. either (eqb (byte f i 0) 2) _ _ (λ d. offer-fits (byte f i 1) (toZ w16 (two f i 2)) (toZ w32 (four f i 4))) (λ d. tt))
+    (λ e. either (eqb (byte f i 0) 2) _ _ (λ d. offer-fits (byte f i 1) (toZ w16 (two f i 2)) (toZ w32 (four f i 4))) (λ d. (omega arith, omega arith)))
 
 -- ---- the first faulty record
 faulty-on : (i : ℕ) (e : Entry) (es : List Entry) → ((k : ℕ) → e ≡ fault k → ⊥) → faulty i (e ∷ es) ≡ faulty (i + 1) es
@@ -205,6 +205,10 @@ unfolding refusal placeIf
 test-fails k true p e = let z : _≡_ {A = ℕ} 0 1 = cc (e) in absurd (omega arith)
 test-fails k false p e = refl
 
+pub short-file : (f : List ℕ) → refusal 1 (tooLong f) ≡ none → length f ≤ 16632
+unfolding tooLong
+short-file f e = ltb-false fileLimit (length f) (test-fails 1 (ltb fileLimit (length f)) 0 e)
+
 pub sound-short : (f : List ℕ) → unsound f ≡ none → length f ≤ 16632
-unfolding unsound tooLong
-sound-short f e = ltb-false fileLimit (length f) (test-fails 1 (ltb fileLimit (length f)) 0 (both-none (refusal 1 (tooLong f)) _ e .0))
+unfolding unsound
+sound-short f e = short-file f (both-none (refusal 1 (tooLong f)) _ e .0)

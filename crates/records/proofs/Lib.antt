@@ -1,4 +1,5 @@
 pub mod Entries
+pub mod Tabled
 pub mod Starred
 pub mod Earlier
 pub mod Written

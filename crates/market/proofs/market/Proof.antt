@@ -10,8 +10,8 @@ use Rattle.records.specs.Records.{entries}
 use Rattle.records.specs.Refusals.{placeIf, unsound}
 use Rattle.records.specs.Market.{marketOf}
 use Rattle.records.proofs.Entries.{sound-short}
-use Rattle.market.specs.Refusals.{firstRecord, noOffer, without, tooMany, repeats, closes}
-use Rattle.market.proofs.Checked.{place-some, place-none, verdict-some, verdict-none, offer-test, refused-feeder, refused-read, refused-5, refused-6, refused-7, refused-8, refused-9, only-10, some-member}
+use Rattle.market.specs.Refusals.{firstRecord, noOffer, without, tooMany, closes}
+use Rattle.market.proofs.Checked.{place-some, place-none, verdict-some, verdict-none, offer-test, refused-feeder, refused-read, refused-5, refused-6, refused-7, refused-9, only-10, some-member}
 use Rattle.market.proofs.Ringless.{ringless}
 use Rattle.market.proofs.market.Statement.{statement}
 use Rattle.market.proofs.market.Tie as tie
@@ -42,17 +42,11 @@ few c =
     place-none (tooMany (marketOf (file (c .before .before .before .before .before .before .before .before .before .before .before)))) _ (c .before .before .too-many-offers .ensures)
     (c .before .match3 .keys2)
 
-once : (c : tie.After-enum-told4) → firstRecord repeats 0 [] (entries (file (c .before .before .before .before .before .before .before .before .before .before .before .before .before .before))) ≡ none
-unfolding file
-once c =
-    place-none (firstRecord repeats 0 [] (entries (file (c .before .before .before .before .before .before .before .before .before .before .before .before .before .before)))) _
-    (c .before .before .repeated-offer .ensures) (c .before .match4 .keys2)
-
-unclosed : (c : tie.After-enum-told5) → firstRecord closes 0 [] (entries (file (c .before .before .before .before .before .before .before .before .before .before .before .before .before .before .before .before .before))) ≡ none
+unclosed : (c : tie.After-enum-told4) → firstRecord closes 0 [] (entries (file (c .before .before .before .before .before .before .before .before .before .before .before .before .before .before))) ≡ none
 unfolding file
 unclosed c =
-    place-none (firstRecord closes 0 [] (entries (file (c .before .before .before .before .before .before .before .before .before .before .before .before .before .before .before .before .before)))) _
-    (c .before .before .closing-link .ensures) (c .before .match5 .keys2)
+    place-none (firstRecord closes 0 [] (entries (file (c .before .before .before .before .before .before .before .before .before .before .before .before .before .before)))) _
+    (c .before .before .closing-link .ensures) (c .before .match4 .keys2)
 
 check-records-requires : tie.Need-check-records-requires
 check-records-requires c κs = search needs
@@ -139,14 +133,14 @@ returns-4 c =
 enum-told-3 : tie.Need-enum-told-3
 enum-told-3 c = search needs
 
-repeated-offer-requires : tie.Need-repeated-offer-requires
+closing-link-requires : tie.Need-closing-link-requires
 unfolding file start
-repeated-offer-requires c κs =
+closing-link-requires c κs =
     let t = start (c .before .before .before .before .before .before .before) in
     sound-short (file (t .before .before)) (read t)
 
-enum-known-twice : tie.Need-enum-known-twice
-enum-known-twice c = search needs
+enum-known-ring : tie.Need-enum-known-ring
+enum-known-ring c = search needs
 
 refused-requires-5 : tie.Need-refused-requires-5
 refused-requires-5 c κs = search needs
@@ -161,58 +155,29 @@ returns-5 c =
     let f = file (start e .before .before) in
     c .refused5 .ensures
     ∙ refused-feeder f _
-    (refused-8 f (read (start e)) (offers e) (have h) (few q) _ (place-some (firstRecord repeats 0 [] (entries f)) _ _ (w .repeated-offer .ensures) (c .before .before .twice .given .1)))
+    (refused-9 f (read (start e)) (offers e) (have h) (few q) _ (place-some (firstRecord closes 0 [] (entries f)) _ _ (w .closing-link .ensures) (c .before .before .ring .given .1)))
 
 enum-told-4 : tie.Need-enum-told-4
 enum-told-4 c = search needs
 
-closing-link-requires : tie.Need-closing-link-requires
-unfolding file start
-closing-link-requires c κs =
-    let t = start (c .before .before .before .before .before .before .before .before .before .before) in
-    sound-short (file (t .before .before)) (read t)
-
-enum-known-ring : tie.Need-enum-known-ring
-enum-known-ring c = search needs
-
-refused-requires-6 : tie.Need-refused-requires-6
-refused-requires-6 c κs = search needs
-
-returns-6 : tie.Need-returns-6
-unfolding file start
-returns-6 c =
-    let w = c .before .before .before .before in
-    let d = w .before in
-    let q = d .before .before .before in
-    let h = q .before .before .before in
-    let e = h .before .before .before .before in
-    let f = file (start e .before .before) in
-    c .refused6 .ensures
-    ∙ refused-feeder f _
-    (refused-9 f (read (start e)) (offers e) (have h) (few q) (once d) _ (place-some (firstRecord closes 0 [] (entries f)) _ _ (w .closing-link .ensures) (c .before .before .ring .given .1)))
-
-enum-told-5 : tie.Need-enum-told-5
-enum-told-5 c = search needs
-
 tree-requires : tie.Need-tree-requires
 unfolding file start
 tree-requires c κs =
-    let h = c .before .before .before .before .before .before .before .before .before in
+    let h = c .before .before .before .before .before .before in
     let m = h .before .before .before in
     let f = file (start (m .before) .before .before) in
     let n = m .members .ensures in
     (n, omega (arith, n, some-member f (offers (m .before))), ringless f (unclosed c))
 
-returns-7 : tie.Need-returns-7
+returns-6 : tie.Need-returns-6
 unfolding file start
-returns-7 c =
+returns-6 c =
     let l = c .before in
-    let d = l .before .before .before in
-    let q = d .before .before .before in
+    let q = l .before .before .before in
     let h = q .before .before .before in
     let e = h .before .before .before .before in
     let f = file (start e .before .before) in
-    c .tree .ensures ∙ only-10 f (read (start e)) (offers e) (have h) (few q) (once d) (unclosed l)
+    c .tree .ensures ∙ only-10 f (read (start e)) (offers e) (have h) (few q) (unclosed l)
 
 pub market-spec : {M : Type 1} → statement M
 market-spec =
@@ -237,15 +202,10 @@ market-spec =
     refused-requires-4
     returns-4
     enum-told-3
-    repeated-offer-requires
-    enum-known-twice
+    closing-link-requires
+    enum-known-ring
     refused-requires-5
     returns-5
     enum-told-4
-    closing-link-requires
-    enum-known-ring
-    refused-requires-6
-    returns-6
-    enum-told-5
     tree-requires
-    returns-7)
+    returns-6)
