@@ -10,5 +10,5 @@ pub mod Positions
 pub mod Writing
 pub mod Solved
 pub mod One
-pub mod Tabled
+pub mod Allowed
 pub mod Shams

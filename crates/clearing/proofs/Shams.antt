@@ -57,7 +57,7 @@ B-members : marketOf (W.B .file) .members ≡ 3
 unfolding W.B W.chain W.bytes N.eqZ N.within B.linkOf B.offerOf B.entryAt B.entriesFrom B.entries M.membersOf M.linksOf M.offersOf M.marketOf
 B-members = refl
 
--- document 01's answer to A, and to B, is the only one
+-- the listed answer to A, and to B, is the only one
 pub only-A : (before : List ℕ) → 48 ≤ length before → (k : ℕ) (after : List ℕ) → Result (W.A .file) before k after → (k ≡ 48) × (after ≡ bytes (W.A .answer) ++ drop 48 before)
 only-A = only (W.A .file) (bytes (W.A .answer)) 3 A-clears A-sound A-members
 

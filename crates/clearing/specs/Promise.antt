@@ -1,4 +1,4 @@
--- The promise of the entry: document 01, "The answer area" and "Refusal numbers, in order of checking".
+-- The promise of the entry: docs/RULES.md, "Records out", "The number returned" and "Refusals".
 use mathlib.Core.Path.{_≡_}
 use mathlib.Core.List.{List, _++_}
 use mathlib.Core.Option.{Option, none, some}

@@ -1,6 +1,6 @@
 pub mod Passes
 pub mod Top
-pub mod Tabled
+pub mod Allowed
 pub mod Tables
 pub mod Looked
 pub mod Scan

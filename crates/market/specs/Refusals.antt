@@ -1,4 +1,4 @@
--- Document 01, "Refusal numbers, in order of checking": refusals 5 to 10, and the first of 1 to 10 that applies.
+-- docs/RULES.md, "Refusals": refusals 5 to 10, and the first of 1 to 10 that applies.
 use mathlib.Core.Bool.{Bool, true, false, cond, not}
 use mathlib.Core.List.{List, [], _∷_}
 use mathlib.Core.Option.{Option, none, some}

@@ -1,5 +1,5 @@
 pub mod Entries
-pub mod Tabled
+pub mod Allowed
 pub mod Starred
 pub mod Earlier
 pub mod Written

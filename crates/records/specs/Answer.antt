@@ -1,4 +1,4 @@
--- Document 01, "The answer area": from the answer to bytes.
+-- docs/RULES.md, "Records out": from the answer to bytes.
 use mathlib.Core.Bool.{cond, _&&_}
 use mathlib.Core.List.{List, [], _∷_, _++_}
 use mathlib.Core.Option.{Option, none, some}

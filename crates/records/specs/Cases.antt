@@ -1,4 +1,4 @@
--- What each case of the enums holds, in document 01's numbers and values.
+-- What each case of the enums holds, in the numbers and values of docs/RULES.md.
 use mathlib.Core.Option.{Option, none, some}
 use lib.IntN.{pos}
 use Rattle.records.specs.declared.Reading.{Reading}

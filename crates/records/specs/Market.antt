@@ -1,4 +1,4 @@
--- Document 01, "Records in the file": the market that a file's records describe.
+-- docs/RULES.md, "Records in": the market that a file's records describe.
 use mathlib.Core.List.{List, [], _∷_}
 use Prim.Native.Nat.{ℕ, max}
 use Rattle.problem.specs.Problem.{Link, Offer, Market}

@@ -1,4 +1,4 @@
--- Document 01, "Records in the file": from bytes to records.
+-- docs/RULES.md, "Records in": from bytes to records.
 use mathlib.Core.Bool.{cond, _&&_}
 use mathlib.Core.List.{List, [], _∷_}
 use Prim.Native.Nat.{ℕ, zero, suc, _+_, _*_, _/_}

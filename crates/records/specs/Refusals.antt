@@ -1,4 +1,4 @@
--- Document 01, "Refusal numbers, in order of checking": what a refusal is, and refusals 1 to 4.
+-- docs/RULES.md, "Refusals": what a refusal is, and refusals 1 to 4.
 use mathlib.Core.Bool.{Bool, true, false, not}
 use mathlib.Core.List.{List, [], _∷_}
 use mathlib.Core.Option.{Option, none, some}

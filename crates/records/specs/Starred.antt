@@ -1,6 +1,6 @@
--- Document 01, "Markets to try": the starred ones, as files, with the bytes of their answers.
+-- docs/RULES.md, "Worked markets": the starred ones, as files, with the bytes of their answers.
 use mathlib.Core.Path.{_≡_}
-use mathlib.Core.List.{List, [], _∷_}
+use mathlib.Core.List.{List, [], _∷_, _++_}
 use mathlib.Core.Option.{Option, none, some}
 use Prim.Native.Nat.{ℕ}
 use lib.IntN.{ℤ}
@@ -33,7 +33,7 @@ AllRight (r ∷ rs) = ((unsound (r .file) ≡ none) × Answers (r .file) (r .ans
 unfoldable pub bytes : (b₀ b₁ b₂ b₃ b₄ b₅ b₆ b₇ : ℕ) → List ℕ → List ℕ
 bytes b₀ b₁ b₂ b₃ b₄ b₅ b₆ b₇ r = b₀ ∷ b₁ ∷ b₂ ∷ b₃ ∷ b₄ ∷ b₅ ∷ b₆ ∷ b₇ ∷ r
 
--- A and B without the link 1-2
+-- A, B and K without the link 1-2, and K without the entries sent later
 unfoldable pub chain : List ℕ
 chain =
     bytes 0x01 0x02 0x03 0x00 0x03 0x00 0x00 0x00 (
@@ -177,5 +177,23 @@ J = record {
       bytes 0x05 0x00 0x00 0x00 0x14 0x00 0x00 0x00 []))))));
 }
 
+-- K: A, whose member 1 then sends a better entry, (-2,-90), and member 3 a worse one, (2,170). Total 90
+unfoldable pub K : Row
+K = record {
+  file =
+      bytes 0x01 0x01 0x02 0x00 0x02 0x00 0x00 0x00 (
+      chain
+      ++ bytes 0x02 0x01 0xFE 0xFF 0xA6 0xFF 0xFF 0xFF (
+      bytes 0x02 0x03 0x02 0x00 0xAA 0x00 0x00 0x00 []));
+  answer =
+      some (
+      bytes 0x03 0x01 0xFE 0xFF 0xA6 0xFF 0xFF 0xFF (
+      bytes 0x03 0x02 0x00 0x00 0x00 0x00 0x00 0x00 (
+      bytes 0x03 0x03 0x02 0x00 0xB4 0x00 0x00 0x00 (
+      bytes 0x04 0x01 0x02 0x00 0x02 0x00 0xE8 0x03 (
+      bytes 0x04 0x02 0x03 0x00 0x02 0x00 0x9A 0x02 (
+      bytes 0x05 0x00 0x00 0x00 0x5A 0x00 0x00 0x00 []))))));
+}
+
 unfoldable pub starred : List Row
-starred = A ∷ B ∷ C ∷ D ∷ E ∷ F ∷ G ∷ H ∷ I ∷ J ∷ []
+starred = A ∷ B ∷ C ∷ D ∷ E ∷ F ∷ G ∷ H ∷ I ∷ J ∷ K ∷ []

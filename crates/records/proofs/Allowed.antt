@@ -1,0 +1,72 @@
+-- A refusal that is given is one that the table allows: its number is not 8, and its place has 16 bits, so that the number returned
+-- tells both. Here of refusals 1 to 4, and of any that are tried one after the other. Assumes nothing.
+use mathlib.Core.Path.{_≡_, refl, subst}
+use mathlib.Core.Bool.{Bool, true, false}
+use mathlib.Core.List.{List, _∷_}
+use mathlib.Core.Option.{Option, none, some}
+use Prim.Native.Nat.{ℕ, zero, suc, _+_, _/_, _≤_, _<_}
+use native.Mathlib.Omega.{arith}
+use lib.ListN.{length}
+use Rattle.records.specs.Records.{Entry, entryAt, entriesFrom, entries}
+use Rattle.records.specs.Records.Entry.{link, offer, fault}
+use Rattle.records.specs.Refusals.{Refusal, refusal, _otherwise_, placeIf, tooLong, notWhole, faulty, unsound}
+use Rattle.records.proofs.Entries.{Fits, entry-fits, short-file}
+
+pub record Allowed (r : Refusal) : Type 0 where
+  pub not-8 : r .number ≡ 8 → ⊥
+  pub place : r .place < 65536
+
+-- the refusal, if there is one, is allowed
+abbrev pub IfAllowed : Option Refusal → Type 0
+IfAllowed o = (r : Refusal) → o ≡ some r → Allowed r
+
+-- the place, if there is one, has 16 bits
+abbrev pub IfPlaced : Option ℕ → Type 0
+IfPlaced o = (p : ℕ) → o ≡ some p → p < 65536
+
+pub nowhere : {A : Type 0} {x : A} → none ≡ some x → ⊥
+nowhere e = let z : _≡_ {A = ℕ} 0 1 = cc in omega arith
+
+pub here : {i : ℕ} → i < 65536 → IfPlaced (some i)
+here {i} l p e = let s : i ≡ p = cc (e) in omega (arith, l, s)
+
+pub placed-if : (t : Bool) (i : ℕ) → (t ≡ true → i < 65536) → IfPlaced (placeIf t i)
+unfolding placeIf
+placed-if true i h p e = here (h refl) p e
+placed-if false i h p e = absurd (nowhere e)
+
+this-allowed : {k i : ℕ} → (k ≡ 8 → ⊥) → i < 65536 → IfAllowed (some (record { number = k; place = i }))
+this-allowed {k} {i} h l r e =
+    let s : record { number = k; place = i } ≡ r = cc (e) in
+    subst Allowed s (record { not-8 = h; place = l })
+
+pub refusal-allowed : (k : ℕ) (o : Option ℕ) → (k ≡ 8 → ⊥) → IfPlaced o → IfAllowed (refusal k o)
+unfolding refusal
+refusal-allowed k none h l r e = absurd (nowhere e)
+refusal-allowed k (some p) h l r e = this-allowed h (l p refl) r e
+
+pub first-allowed : (g h : Option Refusal) → IfAllowed g → (g ≡ none → IfAllowed h) → IfAllowed (g otherwise h)
+unfolding _otherwise_
+first-allowed none h a b r e = b refl r e
+first-allowed (some x) h a b r e = a r e
+
+-- ---- refusals 1 to 4
+
+faulty-one : (i : ℕ) (e : Entry) (es : List Entry) → Fits e → i < 65536 → IfAllowed (faulty (suc i) es) → IfAllowed (faulty i (e ∷ es))
+unfolding faulty
+faulty-one i (link l) es h b t = t
+faulty-one i (offer o) es h b t = t
+faulty-one i (fault k) es h b t = this-allowed (λ e. omega (arith, h, e)) b
+
+faulty-allowed : (f : List ℕ) (i n : ℕ) → i + n ≤ 65536 → IfAllowed (faulty i (entriesFrom f i n))
+unfolding entriesFrom faulty
+faulty-allowed f i zero h = λ r e. absurd (nowhere e)
+faulty-allowed f i (suc n) h = faulty-one i (entryAt f i) (entriesFrom f (suc i) n) (entry-fits f i) (omega (arith, h)) (faulty-allowed f (suc i) n (omega (arith, h)))
+
+pub unsound-allowed : (f : List ℕ) → IfAllowed (unsound f)
+unfolding unsound tooLong notWhole entries
+unsound-allowed f =
+    first-allowed _ _ (refusal-allowed _ _ (λ q. omega (arith, q)) (placed-if _ _ (λ t. omega arith)))
+    (λ e.
+    first-allowed _ _ (refusal-allowed _ _ (λ q. omega (arith, q)) (placed-if _ _ (λ t. omega arith)))
+    (λ e2. faulty-allowed f 0 (length f / 8) (omega (arith, short-file f e))))
