@@ -1,4 +1,4 @@
-//! A market's answer as typed values: document 01, "The answer area".
+//! A market's answer as typed values: `docs/RULES.md`, "Records out".
 
 use crate::{clear, Market, Member, Price, Refusal, Units, ANSWER_LIMIT};
 
@@ -25,7 +25,7 @@ pub struct MemberNet {
     pub member: Member,
     /// The units that the member buys, negative where it sells.
     pub net: Units,
-    /// The price that the member's table gives for its net.
+    /// The highest price that the member's table gives for its net.
     pub value: Price,
 }
 
@@ -57,8 +57,13 @@ pub struct LinkFlow {
 /// assert_eq!((answer.links[0].flow, answer.links[0].load), (Units(-1), clearing::FULL));
 /// assert_eq!(answer.total, Price(-4));
 ///
+/// // A better entry for the same units counts in place of the first.
 /// market.offer(Member(1), Units(1), Price(6));
-/// assert_eq!(clear_market(&market).unwrap_err().number, 8);
+/// assert_eq!(clear_market(&market)?.total, Price(-3));
+///
+/// // Member 3 has no link.
+/// market.offer(Member(3), Units(0), Price(0));
+/// assert_eq!(clear_market(&market).unwrap_err().number, 10);
 /// # Ok::<(), clearing::Refusal>(())
 /// ```
 pub fn clear_market(market: &Market) -> Result<Answer, Refusal> {

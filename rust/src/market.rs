@@ -1,5 +1,5 @@
-//! A market as the records of its file: document 01, "Records in the file". No rule is checked
-//! here; the library refuses.
+//! A market as the records of its file: `docs/RULES.md`, "Records in". No rule is checked here; the
+//! library refuses.
 
 use crate::{Member, Price, Units};
 
@@ -33,7 +33,8 @@ impl Market {
         self
     }
 
-    /// Adds an offer to `member`'s table: to buy `units`, or to sell where they are negative.
+    /// Adds an offer to `member`'s table: to buy `units`, or to sell where they are negative. Of
+    /// several offers of the same units the one with the highest price counts.
     pub fn offer(&mut self, member: Member, units: Units, price: Price) -> &mut Market {
         self.file.extend([2, member.0]);
         self.file.extend(units.0.to_le_bytes());

@@ -1,4 +1,4 @@
-//! Why a market was not cleared: document 01, "Refusal numbers, in order of checking".
+//! Why a market was not cleared: `docs/RULES.md`, "Refusals".
 
 use std::error::Error;
 use std::fmt;
@@ -15,7 +15,7 @@ use std::fmt;
 /// ```
 #[derive(Clone, Copy, Debug, PartialEq, Eq, Hash)]
 pub struct Refusal {
-    /// From 1 to 12.
+    /// From 1 to 12, and never 8.
     pub number: u64,
     /// Where the fault lies.
     pub place: u64,
@@ -43,10 +43,6 @@ impl fmt::Display for Refusal {
             5 => write!(f, "no offer record"),
             6 => write!(f, "member {place} has no offer"),
             7 => write!(f, "member {place} has more than 64 offers"),
-            8 => write!(
-                f,
-                "an offer repeats an earlier one's member and units, in record {place}"
-            ),
             9 => write!(
                 f,
                 "a link joins members already joined by earlier links, in record {place}"

@@ -1,5 +1,6 @@
-//! Refusals where document 01's table must be read closely, each for a file made by hand. The answer
-//! area has no byte, so refusal 11 has its case in all files with a member, and must wait its turn.
+//! Refusals where the table of `docs/RULES.md`, "Refusals", must be read closely, each for a file made
+//! by hand. The answer area has no byte, so refusal 11 has its case in all files with a member, and
+//! must wait its turn.
 
 use crate::common::{cleared, Link, Offer, Random};
 
@@ -57,17 +58,24 @@ fn links_count_for_members_but_not_for_offers() {
 }
 
 #[test]
-fn a_repeat_goes_by_member_and_units_after_the_count() {
+fn every_entry_counts_toward_the_64_repeated_or_not() {
     let mut offers: Vec<[u8; 8]> = (0..64).map(|units| offer(1, units, 0)).collect();
     offers.push(idle(1));
     assert_eq!(refused(&offers), (7, 1));
     assert_eq!(refused(&offers[1..]), (11, 16));
-    assert_eq!(refused(&[idle(1), offer(1, 0, 9)]), (8, 1));
+    assert_eq!(refused(&[offer(1, 3, 9); 65]), (7, 1));
+    assert_eq!(refused(&[offer(1, 3, 9); 64]), (11, 16));
+}
+
+#[test]
+fn a_repeated_offer_is_no_fault_and_hides_none() {
+    assert_eq!(refused(&[idle(1), idle(1)]), (11, 16));
+    assert_eq!(refused(&[idle(1), offer(1, 0, 9)]), (11, 16));
+    let twice = [idle(1), idle(2), idle(1)];
     let ring = [link(1, 2), link(1, 2)];
-    assert_eq!(
-        refused(&[ring[0], ring[1], idle(1), idle(2), idle(1)]),
-        (8, 4)
-    );
+    assert_eq!(refused(&[&twice[..], &ring[..]].concat()), (9, 4));
+    assert_eq!(refused(&twice), (10, 2));
+    assert_eq!(refused(&[&twice[..], &[idle(4)]].concat()), (6, 3));
 }
 
 #[test]

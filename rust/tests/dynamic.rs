@@ -40,7 +40,7 @@ fn best_within(sheet: &Sheet, ranges: &[RangeInclusive<i64>]) -> Option<i64> {
 struct Recursion {
     /// For each member, those reached from it, the last one first, with their upward flows.
     below: Vec<Vec<(usize, RangeInclusive<i64>)>>,
-    /// For each member, the price of each number of units.
+    /// For each member, the highest price of each number of units.
     tables: Vec<HashMap<i64, i64>>,
     /// For each member, the most that its links carry together.
     reach: Vec<i64>,
@@ -56,7 +56,9 @@ impl Recursion {
         }
         let mut tables = vec![HashMap::new(); sheet.n + 1];
         for offer in &sheet.offers {
-            tables[offer.member].insert(offer.units, offer.price);
+            let table = &mut tables[offer.member];
+            let highest = table.entry(offer.units).or_insert(offer.price);
+            *highest = offer.price.max(*highest);
         }
         let mut reach = vec![0; sheet.n + 1];
         for link in &sheet.links {

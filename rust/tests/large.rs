@@ -1,5 +1,6 @@
-//! Markets of the largest size, 32 members with 64 offers each and capacities of 40, against the
-//! recursion of `dynamic`: the total, that the answer is possible, and the tie rule.
+//! Markets of the largest size, 32 members with 64 offers each, some of them repeated, and capacities
+//! of 40, against the recursion of `dynamic`: the total, that the answer is possible, and the tie
+//! rule.
 
 use crate::common::{cases, cleared, Link, Offer, Random, Sheet};
 use crate::dynamic::{beaten_at, best_total, possible_with};
@@ -39,13 +40,18 @@ pub fn random_offers(random: &mut Random) -> Vec<Offer> {
         _ => -step * OFFERS as i64 / 2,
     };
     let far = random.below(4);
+    let repeated = far + random.pick(&[0, 0, 4, 30]);
     let (rate, noise) = random.pick(&[(0, 0), (0, 2), (30, 10), (800, 900), (0, 1_000_000)]);
     let mut offers = Vec::new();
     for member in 1..=MEMBERS {
         for i in 0..OFFERS {
+            let place = match i < repeated {
+                true => repeated + random.below(OFFERS - repeated),
+                false => i,
+            };
             let units = match i < far {
                 true => random.pick(&[-1, 1]) * (400 + 400 * i as i64),
-                false => first + step * i as i64,
+                false => first + step * place as i64,
             };
             let price = -rate * units + random.between(-noise, noise);
             offers.push(Offer {

@@ -1,4 +1,5 @@
-//! Every market of document 01, "Markets to try", with its file and its answer written out by hand.
+//! Every market of `docs/RULES.md`, "Worked markets", with its file and its answer written out by
+//! hand.
 
 use crate::common::{cleared, Random};
 
@@ -155,6 +156,20 @@ fn listed() -> Vec<Row> {
              04 02 03 00 02 00 E8 03
              05 00 00 00 14 00 00 00",
         ),
+        cleared_row(
+            "K",
+            "01 01 02 00 02 00 00 00
+             02 01 00 00 00 00 00 00
+             02 01 FE FF 9C FF FF FF
+             02 02 00 00 00 00 00 00
+             02 02 02 00 B4 00 00 00
+             02 01 FE FF A6 FF FF FF
+             02 02 02 00 AA 00 00 00",
+            "03 01 FE FF A6 FF FF FF
+             03 02 02 00 B4 00 00 00
+             04 01 02 00 02 00 E8 03
+             05 00 00 00 5A 00 00 00",
+        ),
         refused_row(
             "ring",
             "01 01 02 00 01 00 00 00
@@ -191,6 +206,12 @@ fn listed() -> Vec<Row> {
              05 00 00 00 00 00 00 00",
         ),
         refused_row("offers_65", &offers(65), 0, (7, 1)),
+        refused_row(
+            "repeats_65",
+            &(offers(64) + "02 01 00 00 05 00 00 00"),
+            0,
+            (7, 1),
+        ),
         refused_row("seven_bytes", "02 01 00 00 00 00 00", 0, (2, 0)),
     ]
 }

@@ -50,7 +50,7 @@ fn printed(output: &Output) -> &str {
     str::from_utf8(&output.stdout).expect("plain text")
 }
 
-/// The lines that document 01 asks for, from the library's answer.
+/// The lines of `docs/RULES.md`, "The program's lines", from the library's answer.
 fn lines(file: &[u8]) -> String {
     let mut area = [0; ANSWER_LIMIT];
     let written = match clear(file, &mut area) {

@@ -1,5 +1,5 @@
-//! Random and damaged files against a reading of document 01, "Refusal numbers, in order of
-//! checking", written for this test alone.
+//! Random and damaged files against a reading of `docs/RULES.md`, "Refusals", written for this test
+//! alone.
 
 use crate::common::{cases, cleared, Link, Offer, Sheet};
 use crate::dynamic::{best_total, possible_with};
@@ -83,6 +83,13 @@ impl Records {
         Sheet::new(self.n(), links, offers)
     }
 
+    /// Whether an offer repeats another's member and units.
+    fn repeat_an_offer(&self) -> bool {
+        let mut seen = HashSet::new();
+        let mut offers = self.offers.iter();
+        offers.any(|(_, offer)| !seen.insert((offer.member, offer.units)))
+    }
+
     /// Each of refusals 5 to 11 that has a case here, whether or not a lower one has.
     fn refusals(&self, room: usize) -> Vec<Refusal> {
         let n = self.n();
@@ -92,9 +99,6 @@ impl Records {
         };
         let lowest =
             |wrong: &dyn Fn(usize) -> bool| (1..=n).find(|&member| wrong(member)).map(|m| m as u64);
-        let mut seen = HashSet::new();
-        let mut offers = self.offers.iter();
-        let repeated = offers.find(|(_, offer)| !seen.insert((offer.member, offer.units)));
         let closing = (0..self.links.len()).find(|&i| {
             let (_, link) = self.links[i];
             joined_to(link.a, &self.links[..i]).contains(&link.b)
@@ -104,7 +108,6 @@ impl Records {
             (5, self.offers.is_empty().then_some(0)),
             (6, lowest(&|member| count(member) == 0)),
             (7, lowest(&|member| count(member) > 64)),
-            (8, repeated.map(|(place, _)| *place)),
             (9, closing.map(|i| self.links[i].0)),
             (10, lowest(&|member| !joined.contains(&member))),
             (11, (room < 16 * n).then_some(16 * n as u64)),
@@ -133,23 +136,18 @@ fn joined_to(member: usize, links: &[(u64, Link)]) -> HashSet<usize> {
 }
 
 /// Pairs of refusals that can have their case in one file, the lower one given.
-const TOGETHER: [(u64, u64); 20] = [
+const TOGETHER: [(u64, u64); 15] = [
     (5, 6),
     (5, 9),
     (5, 10),
     (5, 11),
     (6, 7),
-    (6, 8),
     (6, 9),
     (6, 10),
     (6, 11),
-    (7, 8),
     (7, 9),
     (7, 10),
     (7, 11),
-    (8, 9),
-    (8, 10),
-    (8, 11),
     (9, 10),
     (9, 11),
     (10, 11),
@@ -161,6 +159,7 @@ fn every_file_is_refused_as_the_table_says() {
     let mut given = BTreeMap::new();
     let mut together = BTreeMap::new();
     let mut sizes = BTreeMap::new();
+    let mut repeats = 0;
     let count = cases("CLEARING_FILES", 250_000, |random| {
         let file = random_file(random);
         let read = read_file(&file);
@@ -187,6 +186,7 @@ fn every_file_is_refused_as_the_table_says() {
             (None, Ok(records), Some(total)) => {
                 let answer = result.expect("an answer, since no refusal has its case");
                 possible_with(&records.sheet(), total, &answer);
+                repeats += u64::from(records.repeat_an_offer());
             }
             (refusal, ..) => assert_eq!(result.err().as_ref(), refusal),
         }
@@ -202,10 +202,12 @@ fn every_file_is_refused_as_the_table_says() {
         let seen = seen.copied().unwrap_or(0);
         assert!(seen >= least, "{seen} of {count} files {what}");
     };
-    for number in 0..=12 {
+    for number in (0..=12).filter(|&number| number != 8) {
         let seen = given.get(&number);
         at_least(seen, count / 1000, format!("with refusal {number}"));
     }
+    let cleared = "cleared with repeated offers".to_string();
+    at_least(Some(&repeats), count / 100, cleared);
     for (first, other) in TOGETHER {
         let seen = together.get(&(first, other));
         at_least(

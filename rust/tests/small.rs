@@ -6,7 +6,7 @@ use crate::common::{cases, cleared, upward, Link, Offer, Random, Sheet};
 const MOST_TRIED: i64 = 3000;
 
 /// A market of at most six members on a tree, with few units and few prices, so that many
-/// allocations have the same total.
+/// allocations have the same total. A table may have several entries for the same units.
 pub fn random_sheet(random: &mut Random) -> Sheet {
     let n = 1 + random.below(6);
     let mut members: Vec<usize> = (1..=n).collect();
@@ -24,6 +24,7 @@ pub fn random_sheet(random: &mut Random) -> Sheet {
     let most_units = random.pick(&[1, 2, 4, 6]);
     let most_offers = random.pick(&[1, 3, 8, 40]);
     let idle_missing = random.pick(&[1, 3, 100]);
+    let most_repeats = random.pick(&[0, 0, 2, 9]);
     let mut offers = Vec::new();
     for member in 1..=n {
         let mut table: Vec<i64> = (-most_units..=most_units).collect();
@@ -32,6 +33,9 @@ pub fn random_sheet(random: &mut Random) -> Sheet {
         table.truncate(1 + random.below(most_offers));
         if !random.one_in(idle_missing) && !table.contains(&0) {
             table.push(0);
+        }
+        for _ in 0..random.below(most_repeats + 1) {
+            table.push(random.pick(&table));
         }
         offers.extend(table.into_iter().map(|units| Offer {
             member,
@@ -91,18 +95,23 @@ fn search(sheet: &Sheet) -> Option<Found> {
 fn total(sheet: &Sheet, flows: &[i64]) -> Option<i64> {
     let mut total = 0;
     for member in 1..=sheet.n {
-        let mut net = 0;
-        for (link, flow) in sheet.links.iter().zip(flows) {
-            if link.b == member {
-                net += flow;
-            }
-            if link.a == member {
-                net -= flow;
-            }
-        }
-        total += sheet.value(member, net)?;
+        total += sheet.value(member, net(sheet, flows, member))?;
     }
     Some(total)
+}
+
+/// The net of a member.
+fn net(sheet: &Sheet, flows: &[i64], member: usize) -> i64 {
+    let mut net = 0;
+    for (link, flow) in sheet.links.iter().zip(flows) {
+        if link.b == member {
+            net += flow;
+        }
+        if link.a == member {
+            net -= flow;
+        }
+    }
+    net
 }
 
 #[test]
@@ -114,6 +123,7 @@ fn small_markets_clear_as_the_search_says() {
     let mut closed = 0;
     let mut idle_missing = 0;
     let mut in_part = 0;
+    let mut several = 0;
     let count = cases("CLEARING_SMALL", 40_000, |random| {
         let sheet = random_sheet(random);
         let file = sheet.file(random);
@@ -136,6 +146,10 @@ fn small_markets_clear_as_the_search_says() {
         closed += u64::from(sheet.links.iter().any(|link| link.capacity == 0));
         idle_missing += u64::from((1..=sheet.n).any(|m| sheet.value(m, 0).is_none()));
         in_part += u64::from(best.flows.iter().zip(&sheet.links).any(part));
+        several += u64::from((1..=sheet.n).any(|member| {
+            let net = net(&sheet, &best.flows, member);
+            sheet.prices(member, net).min() < sheet.value(member, net)
+        }));
     });
     for (seen, what) in [
         (impossible, "without an allocation"),
@@ -145,6 +159,7 @@ fn small_markets_clear_as_the_search_says() {
         (closed, "with a closed link"),
         (idle_missing, "with a member that does not offer 0 units"),
         (in_part, "with a link used in part"),
+        (several, "with several prices for a net of the answer"),
     ] {
         assert!(seen >= count / 50, "{seen} of {count} markets {what}");
     }

@@ -97,7 +97,7 @@ found =
     ∷ clears (neg 1 ∷ []) (neg 4)
     ∷ fails
     ∷ clears (pos 2 ∷ pos 2 ∷ []) (pos 20)
-    ∷ clears (pos 2 ∷ pos 2 ∷ []) (pos 90)
+    ∷ clears (pos 2 ∷ []) (pos 90)
     ∷ []
 
 -- the claim

@@ -1,4 +1,4 @@
-//! The example markets: those of document 01, "Markets to try", and three larger ones.
+//! The example markets: those of `docs/RULES.md`, "Worked markets", and three larger ones.
 
 use clearing::{Market, Member, Price, Units};
 
@@ -23,11 +23,16 @@ pub fn markets() -> Vec<(&'static str, Market)> {
         ("H", market(&[(1, 2, 1)], &[&[(1, 5)], &[(-1, -9)]])),
         ("I", market(&[(1, 2, 1)], &[&[(-1, -3)], &[(2, 9)]])),
         ("J", j()),
+        ("K", k()),
         ("ring", market(&ring, &[IDLE, IDLE, IDLE])),
         ("capacity_40", market(&[(1, 2, 40)], &[sells_40, buys_40])),
         ("capacity_41", market(&[(1, 2, 41)], &[sells_40, buys_40])),
         ("offers_64", market(&[], &[&free(64)])),
         ("offers_65", market(&[], &[&free(65)])),
+        (
+            "repeats_65",
+            market(&[], &[&[free(64), vec![(0, 5)]].concat()]),
+        ),
         ("seven_bytes", Market::from(vec![2, 1, 0, 0, 0, 0, 0])),
         ("street", street()),
         ("star", large(|_| 1)),
@@ -74,6 +79,16 @@ fn j() -> Market {
             &[(0, 0), (2, 120)],
         ],
     )
+}
+
+/// A base table for each of two members, and then a better entry of member 1 and a worse one of
+/// member 2.
+fn k() -> Market {
+    let mut market = market(&[(1, 2, 2)], &[&[(0, 0), (-2, -100)], &[(0, 0), (2, 180)]]);
+    market
+        .offer(Member(1), Units(-2), Price(-90))
+        .offer(Member(2), Units(2), Price(170));
+    market
 }
 
 /// Offers of 0 to `count` - 1 units, each at price 0.

@@ -1,5 +1,5 @@
-//! A market as the tests see it, and document 01's definitions said of it: its file, the walk, and
-//! the answer's bytes for given flows.
+//! A market as the tests see it, and the definitions of `docs/RULES.md` said of it: its file, the
+//! walk, and the answer's bytes for given flows.
 
 use super::Random;
 
@@ -75,11 +75,16 @@ impl Sheet {
         records.concat()
     }
 
-    /// The price that a member's table gives for its net.
-    pub fn value(&self, member: usize, net: i64) -> Option<i64> {
+    /// The prices that a member's table gives for its net.
+    pub fn prices(&self, member: usize, net: i64) -> impl Iterator<Item = i64> + '_ {
         let offers = self.offers.iter();
-        let mut found = offers.filter(|offer| offer.member == member && offer.units == net);
-        found.next().map(|offer| offer.price)
+        let found = offers.filter(move |offer| offer.member == member && offer.units == net);
+        found.map(|offer| offer.price)
+    }
+
+    /// The highest of them.
+    pub fn value(&self, member: usize, net: i64) -> Option<i64> {
+        self.prices(member, net).max()
     }
 
     /// The walk from member 1: to the neighbours not yet visited, lowest number first, finishing
