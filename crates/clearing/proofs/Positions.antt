@@ -29,7 +29,7 @@ use Rattle.records.specs.Market.{linksOf, marketOf}
 use Rattle.records.proofs.Entries.{Fits, entry-fits}
 use Rattle.market.specs.Feeder.{memberAt, fromAt, positionOf, capacityOf, places, built}
 use Rattle.market.specs.declared.Feeder.{Feeder}
-use Rattle.market.proofs.Top.{members-few}
+use Rattle.market.proofs.Top.{market-few}
 use Rattle.market.proofs.Filled.{places-length, places-at}
 use Rattle.market.proofs.Trees.{from-le, full, member-at, parent-at, capacity-at}
 use Rattle.rows.proofs.Own.{topOf, ownOf}
@@ -90,9 +90,8 @@ module _ (f : List ℕ) (R : Tree (marketOf f)) where
   abbrev n : ℕ
   n = marketOf f .members
 
-  pub few : n ≤ 32
-  unfolding marketOf
-  few = members-few f
+  few : n ≤ 32
+  few = market-few f
 
   -- the first n of 32 places
   abbrev pub firsts : (ℕ → ℕ) → List ℕ

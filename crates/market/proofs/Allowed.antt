@@ -1,22 +1,22 @@
 -- A refusal of a file is one that the table allows: its number is not 8, and its place has 16 bits. Assumes nothing.
 use mathlib.Core.Bool.{Bool, true, false}
 use mathlib.Core.List.{List, [], _∷_}
-use mathlib.Core.Option.{some}
+use mathlib.Core.Option.{some, Option·none-ne-some}
 use Prim.Native.Nat.{ℕ, zero, suc, _+_, _/_, _≤_}
 use native.Mathlib.Omega.{arith}
 use lib.ListN.{length}
 use borrow.Author.Tests.{ltb-true}
 use Rattle.records.specs.Records.{Entry, entryAt, entriesFrom, entries}
-use Rattle.records.specs.Market.{membersOf, marketOf}
+use Rattle.records.specs.Market.{marketOf}
 use Rattle.records.proofs.Entries.{sound-short}
-use Rattle.records.proofs.Allowed.{IfAllowed, IfPlaced, nowhere, here, placed-if, refusal-allowed, first-allowed, unsound-allowed}
+use Rattle.records.proofs.Allowed.{IfAllowed, IfPlaced, here, placed-if, refusal-allowed, first-allowed, unsound-allowed}
 use Rattle.market.specs.Refusals.{lowestMember, firstRecord, noOffer, without, tooMany, closes, apart, faultOf}
-use Rattle.market.proofs.Top.{members-few}
+use Rattle.market.proofs.Top.{market-few}
 
 -- the first record that passes, of n from record i on
 record-placed : (p : List Entry → Entry → Bool) (f : List ℕ) (i n : ℕ) (earlier : List Entry) → i + n ≤ 65536 → IfPlaced (firstRecord p i earlier (entriesFrom f i n))
 unfolding firstRecord entriesFrom
-record-placed p f i zero earlier h = λ q e. absurd (nowhere e)
+record-placed p f i zero earlier h = λ q e. absurd (Option·none-ne-some q e)
 record-placed p f i (suc n) earlier h = go (p earlier (entryAt f i)) (record-placed p f (suc i) n (entryAt f i ∷ earlier) (omega (arith, h)))
   where
     go : (t : Bool) → IfPlaced (firstRecord p (suc i) (entryAt f i ∷ earlier) (entriesFrom f (suc i) n))
@@ -26,8 +26,8 @@ record-placed p f i (suc n) earlier h = go (p earlier (entryAt f i)) (record-pla
 
 -- the lowest member of a file that passes
 member-placed : (p : ℕ → Bool) (f : List ℕ) → IfPlaced (lowestMember p (marketOf f .members))
-unfolding lowestMember marketOf
-member-placed p f = placed-if _ _ (λ t. omega (arith, ltb-true _ (membersOf (entries f)) t, members-few f))
+unfolding lowestMember
+member-placed p f = placed-if _ _ (λ t. omega (arith, ltb-true _ (marketOf f .members) t, market-few f))
 
 -- refusals 1 to 10
 pub fault-allowed : (f : List ℕ) → IfAllowed (faultOf f)

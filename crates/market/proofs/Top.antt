@@ -6,7 +6,7 @@ use native.Mathlib.Omega.{arith}
 use lib.ListN.{length}
 use Rattle.records.specs.Records.{Entry, entryAt, entriesFrom, entries}
 use Rattle.records.specs.Records.Entry.{link, offer, fault}
-use Rattle.records.specs.Market.{membersOf}
+use Rattle.records.specs.Market.{membersOf, marketOf}
 use Rattle.records.proofs.Entries.{rest, ended, Fits, entry-fits}
 
 -- a record's members, and those of the records after it
@@ -39,3 +39,7 @@ few-from f i (suc n) = rw (apart (entryAt f i)) (omega (arith, few (entryAt f i)
 pub members-few : (f : List ℕ) → membersOf (entries f) ≤ 32
 unfolding entries
 members-few f = few-from f 0 (length f / 8)
+
+pub market-few : (f : List ℕ) → marketOf f .members ≤ 32
+unfolding marketOf
+market-few f = members-few f

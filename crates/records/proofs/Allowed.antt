@@ -3,7 +3,7 @@
 use mathlib.Core.Path.{_≡_, refl, subst}
 use mathlib.Core.Bool.{Bool, true, false}
 use mathlib.Core.List.{List, _∷_}
-use mathlib.Core.Option.{Option, none, some}
+use mathlib.Core.Option.{Option, none, some, Option·none-ne-some, Option·some-injective}
 use Prim.Native.Nat.{ℕ, zero, suc, _+_, _/_, _≤_, _<_}
 use native.Mathlib.Omega.{arith}
 use lib.ListN.{length}
@@ -24,25 +24,20 @@ IfAllowed o = (r : Refusal) → o ≡ some r → Allowed r
 abbrev pub IfPlaced : Option ℕ → Type 0
 IfPlaced o = (p : ℕ) → o ≡ some p → p < 65536
 
-pub nowhere : {A : Type 0} {x : A} → none ≡ some x → ⊥
-nowhere e = let z : _≡_ {A = ℕ} 0 1 = cc in omega arith
-
 pub here : {i : ℕ} → i < 65536 → IfPlaced (some i)
-here {i} l p e = let s : i ≡ p = cc (e) in omega (arith, l, s)
+here {i} l p e = omega (arith, l, Option·some-injective i p e)
 
 pub placed-if : (t : Bool) (i : ℕ) → (t ≡ true → i < 65536) → IfPlaced (placeIf t i)
 unfolding placeIf
 placed-if true i h p e = here (h refl) p e
-placed-if false i h p e = absurd (nowhere e)
+placed-if false i h p e = absurd (Option·none-ne-some p e)
 
 this-allowed : {k i : ℕ} → (k ≡ 8 → ⊥) → i < 65536 → IfAllowed (some (record { number = k; place = i }))
-this-allowed {k} {i} h l r e =
-    let s : record { number = k; place = i } ≡ r = cc (e) in
-    subst Allowed s (record { not-8 = h; place = l })
+this-allowed {k} {i} h l r e = subst Allowed (Option·some-injective (record { number = k; place = i }) r e) (record { not-8 = h; place = l })
 
 pub refusal-allowed : (k : ℕ) (o : Option ℕ) → (k ≡ 8 → ⊥) → IfPlaced o → IfAllowed (refusal k o)
 unfolding refusal
-refusal-allowed k none h l r e = absurd (nowhere e)
+refusal-allowed k none h l r e = absurd (Option·none-ne-some r e)
 refusal-allowed k (some p) h l r e = this-allowed h (l p refl) r e
 
 pub first-allowed : (g h : Option Refusal) → IfAllowed g → (g ≡ none → IfAllowed h) → IfAllowed (g otherwise h)
@@ -60,7 +55,7 @@ faulty-one i (fault k) es h b t = this-allowed (λ e. omega (arith, h, e)) b
 
 faulty-allowed : (f : List ℕ) (i n : ℕ) → i + n ≤ 65536 → IfAllowed (faulty i (entriesFrom f i n))
 unfolding entriesFrom faulty
-faulty-allowed f i zero h = λ r e. absurd (nowhere e)
+faulty-allowed f i zero h = λ r e. absurd (Option·none-ne-some r e)
 faulty-allowed f i (suc n) h = faulty-one i (entryAt f i) (entriesFrom f (suc i) n) (entry-fits f i) (omega (arith, h)) (faulty-allowed f (suc i) n (omega (arith, h)))
 
 pub unsound-allowed : (f : List ℕ) → IfAllowed (unsound f)

@@ -11,7 +11,8 @@ use Rattle.market.specs.Feeder.{built, feederOf}
 use Rattle.market.specs.declared.Feeder.{Feeder}
 use Rattle.market.proofs.Sound.{sound-tree}
 use Rattle.market.proofs.Filled.{places-length}
-use Rattle.clearing.proofs.Positions.{few, feeder-small, feeder-laid}
+use Rattle.market.proofs.Top.{market-few}
+use Rattle.clearing.proofs.Positions.{feeder-small, feeder-laid}
 use Rattle.clearing.proofs.settle.Statement.{statement}
 use Rattle.clearing.proofs.settle.Tie as tie
 
@@ -24,7 +25,7 @@ is c = c .pre .1 ∙ ap (built (file c)) (c .pre .0)
 
 count-few : (c : tie.Start) → c .args .feeder .members ≤ 32
 unfolding file built
-count-few c = omega (arith, few (file c) (sound-tree (file c) (c .pre .0)), ap (λ (x : Feeder). x .members) (is c))
+count-few c = omega (arith, market-few (file c), ap (λ (x : Feeder). x .members) (is c))
 
 lengths : (c : tie.Start) → (length (c .args .feeder .bit) ≡ 32) × (length (c .args .feeder .parent) ≡ 32) × (length (c .args .feeder .capacity) ≡ 32)
 unfolding built
