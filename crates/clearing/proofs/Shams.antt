@@ -1,4 +1,5 @@
--- On the starred files A and B no result but the table's is allowed; so the three shams fall. Assumes nothing.
+-- On the starred files A, B and K no result but the table's is allowed; so the three shams fall, and a repeated entry is no fault.
+-- Assumes nothing.
 use mathlib.Core.Path.{_≡_, refl, ap, ap₂, _∙_}
 use mathlib.Core.List.{List, [], _++_}
 use mathlib.Core.Option.{Option, none, some}
@@ -41,28 +42,27 @@ B-clears : Clears (W.B .file) (bytes (W.B .answer))
 unfolding starred W.B bytes
 B-clears = all-right .1 .0 .1
 
-A-sound : faultOf (W.A .file) ≡ none
-unfolding W.A W.chain W.bytes N.eqZ N.within P.lowest P.joined B.linkOf B.offerOf B.entryAt B.entriesFrom B.entries R.refusal R._otherwise_ R.placeIf R.tooLong R.notWhole R.faulty R.unsound M.membersOf M.linksOf M.offersOf M.marketOf F.lowestMember F.firstRecord F.offersBy F.noOffer F.without F.tooMany F.closes F.apart F.faultOf
-A-sound = refl
+K-clears : Clears (W.K .file) (bytes (W.K .answer))
+unfolding starred W.K bytes
+K-clears = all-right .1 .1 .1 .1 .1 .1 .1 .1 .1 .1 .0 .1
 
-B-sound : faultOf (W.B .file) ≡ none
-unfolding W.B W.chain W.bytes N.eqZ N.within P.lowest P.joined B.linkOf B.offerOf B.entryAt B.entriesFrom B.entries R.refusal R._otherwise_ R.placeIf R.tooLong R.notWhole R.faulty R.unsound M.membersOf M.linksOf M.offersOf M.marketOf F.lowestMember F.firstRecord F.offersBy F.noOffer F.without F.tooMany F.closes F.apart F.faultOf
-B-sound = refl
+sound : (faultOf (W.A .file) ≡ none) × (faultOf (W.B .file) ≡ none) × (faultOf (W.K .file) ≡ none)
+unfolding W.A W.B W.K W.chain W.bytes N.within P.lowest P.joined B.linkOf B.offerOf B.entryAt B.entriesFrom B.entries R.refusal R._otherwise_ R.placeIf R.tooLong R.notWhole R.faulty R.unsound M.membersOf M.linksOf M.offersOf M.marketOf F.lowestMember F.firstRecord F.offersBy F.noOffer F.without F.tooMany F.closes F.apart F.faultOf
+sound = (refl, refl, refl)
 
-A-members : marketOf (W.A .file) .members ≡ 3
-unfolding W.A W.chain W.bytes N.eqZ N.within B.linkOf B.offerOf B.entryAt B.entriesFrom B.entries M.membersOf M.linksOf M.offersOf M.marketOf
-A-members = refl
+members : (marketOf (W.A .file) .members ≡ 3) × (marketOf (W.B .file) .members ≡ 3) × (marketOf (W.K .file) .members ≡ 2)
+unfolding W.A W.B W.K W.chain W.bytes N.within B.linkOf B.offerOf B.entryAt B.entriesFrom B.entries M.membersOf M.linksOf M.offersOf M.marketOf
+members = (refl, refl, refl)
 
-B-members : marketOf (W.B .file) .members ≡ 3
-unfolding W.B W.chain W.bytes N.eqZ N.within B.linkOf B.offerOf B.entryAt B.entriesFrom B.entries M.membersOf M.linksOf M.offersOf M.marketOf
-B-members = refl
-
--- the listed answer to A, and to B, is the only one
+-- the listed answer to A, to B and to K, whose members repeat an entry, is the only one
 pub only-A : (before : List ℕ) → 48 ≤ length before → (k : ℕ) (after : List ℕ) → Result (W.A .file) before k after → (k ≡ 48) × (after ≡ bytes (W.A .answer) ++ drop 48 before)
-only-A = only (W.A .file) (bytes (W.A .answer)) 3 A-clears A-sound A-members
+only-A = only (W.A .file) (bytes (W.A .answer)) 3 A-clears (sound .0) (members .0)
 
 pub only-B : (before : List ℕ) → 48 ≤ length before → (k : ℕ) (after : List ℕ) → Result (W.B .file) before k after → (k ≡ 48) × (after ≡ bytes (W.B .answer) ++ drop 48 before)
-only-B = only (W.B .file) (bytes (W.B .answer)) 3 B-clears B-sound B-members
+only-B = only (W.B .file) (bytes (W.B .answer)) 3 B-clears (sound .1) (members .1)
+
+pub only-K : (before : List ℕ) → 32 ≤ length before → (k : ℕ) (after : List ℕ) → Result (W.K .file) before k after → (k ≡ 32) × (after ≡ bytes (W.K .answer) ++ drop 32 before)
+only-K = only (W.K .file) (bytes (W.K .answer)) 2 K-clears (sound .2) (members .2)
 
 -- ---- the shams
 

@@ -3,9 +3,9 @@
 use mathlib.Core.Path.{_≡_, sym, _∙_}
 use mathlib.Core.Logic.{_⊎_, inl, inr}
 use mathlib.Core.Bool.{Bool, true, false}
-use mathlib.Core.List.{List, []}
+use mathlib.Core.List.{List, [], _∷_}
 use mathlib.Core.Option.{Option, none, some}
-use Prim.Native.Nat.{ℕ, suc, _+_, _-_, _/_, _≤_, _<_}
+use Prim.Native.Nat.{ℕ, zero, suc, _+_, _-_, _/_, _≤_, _<_}
 use native.Mathlib.Nat.{sub-zero}
 use native.Mathlib.Omega.{arith}
 use native.Mathlib.Numerals.{add-one}
@@ -17,9 +17,13 @@ use Rattle.problem.specs.Problem.{lowest}
 use Rattle.problem.proofs.Count.{either, lowest-hit, lowest-is}
 use Rattle.records.specs.Records.{Entry, entryAt, entriesFrom, entries}
 use Rattle.records.specs.Refusals.{placeIf}
-use Rattle.records.proofs.Earlier.{earlier}
 use Rattle.records.proofs.Entries.{rest, ended}
 use Rattle.market.specs.Refusals.{lowestMember, firstRecord}
+
+-- the records before record i, the latest first
+unfoldable pub earlier : List ℕ → ℕ → List Entry
+earlier f zero = []
+earlier f (suc i) = entryAt f i ∷ earlier f i
 
 -- ---- the records of f, of which the next is i
 module _ (p : List Entry → Entry → Bool) (f : List ℕ) where

@@ -30,10 +30,9 @@ use Rattle.records.specs.Records.Entry.{link, offer, fault}
 use Rattle.records.specs.Cases.{readingOf}
 use Rattle.records.specs.Market.{linksOf}
 use Rattle.records.proofs.Reading.{the-type}
-use Rattle.records.proofs.Earlier.{earlier}
 use Rattle.records.proofs.Entries.{link-is, not-link, LinkFits, Fits, entry-fits}
 use Rattle.market.specs.Refusals.{firstRecord, closes}
-use Rattle.market.proofs.Passes.{Left, record-start, record-none, record-hit, record-miss}
+use Rattle.market.proofs.Passes.{earlier, Left, record-start, record-none, record-hit, record-miss}
 
 -- the links before record i, the latest first
 abbrev pub before : List ℕ → ℕ → List Link

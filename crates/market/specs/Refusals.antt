@@ -47,7 +47,7 @@ closes earlier (fault k) = false
 unfoldable pub apart : Market → Option ℕ
 apart m = lowestMember (λ j. not (joined (m .links) 1 j)) (m .members)
 
--- refusals 1 to 7, 9 and 10: the first that applies; 8 is not given
+-- refusals 1 to 10, of which 8 is never given: the first that applies
 unfoldable pub faultOf : List ℕ → Option Refusal
 faultOf f =
     unsound f

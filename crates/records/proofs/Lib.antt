@@ -1,7 +1,6 @@
 pub mod Entries
 pub mod Allowed
 pub mod Starred
-pub mod Earlier
 pub mod Written
 pub mod Carried
 pub mod Filled
