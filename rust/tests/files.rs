@@ -39,8 +39,8 @@ pub fn random_file(random: &mut Random) -> Vec<u8> {
     file
 }
 
-/// About as many records as a file can hold: a sound market, or one with a record too many, a
-/// repeated offer, links in place of most offers, or its end cut off.
+/// About as many records as a file can hold: a sound market, perhaps with a repeated offer, or one
+/// with a record too many, links in place of most offers, or its end cut off.
 fn largest(random: &mut Random) -> Vec<[u8; 8]> {
     let links = random_links(Shape::Tree, random);
     let mut records = Sheet::new(32, links, random_offers(random)).records();
@@ -68,7 +68,8 @@ fn too_long(random: &mut Random) -> Vec<[u8; 8]> {
     vec![[2, 1, 0, 0, 0, 0, 0, 0]; count]
 }
 
-/// A market that may break any of the rules behind refusals 5 to 10, or none, or several.
+/// A market that may break any of the rules behind refusals 5 to 10, or none, or several. Its offers
+/// may repeat one another.
 fn rough(random: &mut Random) -> Vec<[u8; 8]> {
     let n = random.pick(&[1, 2, 2, 3, 3, 4, 5, 32]);
     let mut records = Vec::new();

@@ -1,6 +1,6 @@
-//! Markets of the largest size, 32 members with 64 offers each, some of them repeated, and capacities
-//! of 40, against the recursion of `dynamic`: the total, that the answer is possible, and the tie
-//! rule.
+//! Markets of the largest size, 32 members with 64 offers each and capacities of 40, often with several
+//! entries for the same units, against the recursion of `dynamic`: the total, that the answer is
+//! possible, and the tie rule.
 
 use crate::common::{cases, cleared, Link, Offer, Random, Sheet};
 use crate::dynamic::{beaten_at, best_total, possible_with};
@@ -68,6 +68,7 @@ pub fn random_offers(random: &mut Random) -> Vec<Offer> {
 fn large_markets_clear_as_the_recursion_says() {
     let mut shapes = [0; 3];
     let mut impossible = 0;
+    let mut several = 0;
     let count = cases("CLEARING_LARGE", 90, |random| {
         let shape = random.pick(&[Shape::Star, Shape::Chain, Shape::Tree]);
         shapes[shape as usize] += 1;
@@ -82,6 +83,7 @@ fn large_markets_clear_as_the_recursion_says() {
         };
         let answer = result.expect("an answer, since an allocation is possible");
         let flows = possible_with(&sheet, total, &answer);
+        several += u64::from(sheet.has_several_prices(&flows));
         assert_eq!(beaten_at(&sheet, &flows, total), None, "the tie rule");
     });
     for seen in shapes {
@@ -96,4 +98,8 @@ fn large_markets_clear_as_the_recursion_says() {
         "{impossible} without an allocation"
     );
     assert!(possible >= count / 4, "{possible} with an allocation");
+    assert!(
+        several >= count / 10,
+        "{several} with several prices for a net of the answer"
+    );
 }

@@ -95,23 +95,9 @@ fn search(sheet: &Sheet) -> Option<Found> {
 fn total(sheet: &Sheet, flows: &[i64]) -> Option<i64> {
     let mut total = 0;
     for member in 1..=sheet.n {
-        total += sheet.value(member, net(sheet, flows, member))?;
+        total += sheet.value(member, sheet.net(member, flows))?;
     }
     Some(total)
-}
-
-/// The net of a member.
-fn net(sheet: &Sheet, flows: &[i64], member: usize) -> i64 {
-    let mut net = 0;
-    for (link, flow) in sheet.links.iter().zip(flows) {
-        if link.b == member {
-            net += flow;
-        }
-        if link.a == member {
-            net -= flow;
-        }
-    }
-    net
 }
 
 #[test]
@@ -146,10 +132,7 @@ fn small_markets_clear_as_the_search_says() {
         closed += u64::from(sheet.links.iter().any(|link| link.capacity == 0));
         idle_missing += u64::from((1..=sheet.n).any(|m| sheet.value(m, 0).is_none()));
         in_part += u64::from(best.flows.iter().zip(&sheet.links).any(part));
-        several += u64::from((1..=sheet.n).any(|member| {
-            let net = net(&sheet, &best.flows, member);
-            sheet.prices(member, net).min() < sheet.value(member, net)
-        }));
+        several += u64::from(sheet.has_several_prices(&best.flows));
     });
     for (seen, what) in [
         (impossible, "without an allocation"),

@@ -75,8 +75,22 @@ impl Sheet {
         records.concat()
     }
 
+    /// A member's net, given the flow on each link.
+    pub fn net(&self, member: usize, flows: &[i64]) -> i64 {
+        let mut net = 0;
+        for (link, flow) in self.links.iter().zip(flows) {
+            if link.b == member {
+                net += flow;
+            }
+            if link.a == member {
+                net -= flow;
+            }
+        }
+        net
+    }
+
     /// The prices that a member's table gives for its net.
-    pub fn prices(&self, member: usize, net: i64) -> impl Iterator<Item = i64> + '_ {
+    fn prices(&self, member: usize, net: i64) -> impl Iterator<Item = i64> + '_ {
         let offers = self.offers.iter();
         let found = offers.filter(move |offer| offer.member == member && offer.units == net);
         found.map(|offer| offer.price)
@@ -85,6 +99,14 @@ impl Sheet {
     /// The highest of them.
     pub fn value(&self, member: usize, net: i64) -> Option<i64> {
         self.prices(member, net).max()
+    }
+
+    /// Whether a member's table gives different prices for its net, given the flow on each link.
+    pub fn has_several_prices(&self, flows: &[i64]) -> bool {
+        (1..=self.n).any(|member| {
+            let net = self.net(member, flows);
+            self.prices(member, net).min() < self.value(member, net)
+        })
     }
 
     /// The walk from member 1: to the neighbours not yet visited, lowest number first, finishing
