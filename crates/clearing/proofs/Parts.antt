@@ -7,7 +7,7 @@ use lib.ListN.{length, getD, take, drop, length-take, length-drop, List·getD-ap
 use lib.Seq.{getD-take, getD-drop, getD-append-add, length-take-le}
 use Rattle.problem.proofs.Cell.{_⊕_}
 use Rattle.problem.proofs.Max.{maxTo, argmax, maxTo-ext, argmax-ext}
-use Rattle.rows.specs.Rows.{meets, Combined}
+use Rattle.rows.specs.inner.Rows.{meets, Combined}
 use Rattle.problem.proofs.Store.{slotOf, meet, Taken}
 
 -- ---- parts

@@ -27,7 +27,7 @@ use Rattle.records.specs.Records.{Entry, entries, entriesFrom, entryAt}
 use Rattle.records.specs.Records.Entry.{link, offer, fault}
 use Rattle.records.specs.Market.{linksOf, marketOf}
 use Rattle.records.proofs.Entries.{Fits, entry-fits}
-use Rattle.market.specs.Feeder.{memberAt, fromAt, positionOf, capacityOf, places, built}
+use Rattle.market.specs.inner.Feeders.{memberAt, fromAt, positionOf, capacityOf, places, built}
 use Rattle.market.specs.declared.Feeder.{Feeder}
 use Rattle.market.proofs.Top.{market-few}
 use Rattle.market.proofs.Filled.{places-length, places-at}

@@ -19,9 +19,9 @@ use Rattle.problem.proofs.Store.{walkOf}
 use Rattle.records.specs.Refusals.{Refusal, refusal, _otherwise_, placeIf}
 use Rattle.records.specs.Market.{marketOf}
 use Rattle.records.specs.Answer.{answerOf}
-use Rattle.records.specs.Cases.{verdictOf}
+use Rattle.records.specs.inner.Cases.{verdictOf}
 use Rattle.market.specs.Refusals.{faultOf}
-use Rattle.market.specs.Feeder.{built, feederOf}
+use Rattle.market.specs.inner.Feeders.{built, feederOf}
 use Rattle.market.specs.declared.Feeder.{Feeder}
 use Rattle.rows.proofs.Gives.{priced}
 use Rattle.rows.proofs.Own.{ownOf}

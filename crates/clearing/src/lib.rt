@@ -10,7 +10,7 @@ ghost use Rattle.problem.proofs.Cleared.{choices, flowsOf};
 ghost use Rattle.records.specs.Market.{marketOf};
 ghost use Rattle.records.specs.Answer.{answerOf};
 ghost use Rattle.market.specs.Refusals.{faultOf};
-ghost use Rattle.market.specs.Feeder.{feederOf};
+ghost use Rattle.market.specs.inner.Feeders.{feederOf};
 ghost use Rattle.rows.proofs.Chosen.{Laid, Chosen};
 ghost use Rattle.clearing.specs.Promise.{code, Result};
 use market::Feeder;

@@ -16,11 +16,11 @@ use Rattle.network.proofs.Order.{Adj, Holds, WalkOf}
 use Rattle.network.proofs.Near.{Masks, Blank, adj-of, reached-small, all-joined, not-joined}
 use Rattle.records.specs.Records.{entries}
 use Rattle.records.specs.Refusals.{Refusal, refusal}
-use Rattle.records.specs.Cases.{verdictOf}
+use Rattle.records.specs.inner.Cases.{verdictOf}
 use Rattle.records.specs.Market.{membersOf, linksOf, marketOf}
 use Rattle.records.specs.declared.Verdict.the-variants as Verdict
 use Rattle.market.specs.Refusals.{apart}
-use Rattle.market.specs.Feeder.{memberAt, fromAt, positionOf, capacityOf, places, built}
+use Rattle.market.specs.inner.Feeders.{memberAt, fromAt, positionOf, capacityOf, places, built}
 use Rattle.market.specs.declared.Feeder.{Feeder}
 use Rattle.market.proofs.Passes.{member-hit, member-none}
 use Rattle.market.proofs.Top.{members-few}

@@ -14,7 +14,7 @@ use denote.Enum.Declared.{tagOf}
 use Rattle.records.specs.Records.{Entry, entries, entriesFrom, entryAt}
 use Rattle.records.specs.Records.Entry.{link, offer, fault}
 use Rattle.records.specs.Refusals.{Refusal, refusal, _otherwise_, placeIf, unsound}
-use Rattle.records.specs.Cases.{verdictOf}
+use Rattle.records.specs.inner.Cases.{verdictOf}
 use Rattle.records.specs.Market.{membersOf, offersOf, marketOf}
 use Rattle.records.specs.declared.Verdict.{Verdict}
 use Rattle.records.specs.declared.Verdict.the-variants as Verdict
@@ -23,8 +23,8 @@ use Rattle.records.proofs.Entries.{Fits, entry-fits}
 use Rattle.market.specs.declared.Place.{Place}
 use Rattle.market.specs.declared.Place.the-variants as Place
 use Rattle.market.specs.Refusals.{firstRecord, noOffer, without, tooMany, closes, apart, faultOf}
-use Rattle.market.specs.Cases.{placeOf}
-use Rattle.market.specs.Feeder.{built, feederOf}
+use Rattle.market.specs.inner.Cases.{placeOf}
+use Rattle.market.specs.inner.Feeders.{built, feederOf}
 use Rattle.market.proofs.Place as place
 use Rattle.market.proofs.Arrays.{refused-any}
 

@@ -12,7 +12,7 @@ use lib.Seq.{ext-getD, getD-at, getD-set-same, getD-set-other}
 use borrow.Author.Tests.{ltb-true, ltb-false, lt-ltb, le-ltb}
 use Rattle.problem.proofs.Count.{same?, either}
 use Rattle.network.proofs.Near.{Blank, blank-none, blank-set}
-use Rattle.market.specs.Feeder.{places}
+use Rattle.market.specs.inner.Feeders.{places}
 
 pub places-length : (k n : ℕ) (f : ℕ → ℕ) → length (places k n f) ≡ k
 unfolding places

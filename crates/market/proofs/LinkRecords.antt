@@ -25,10 +25,10 @@ use Rattle.records.specs.declared.Reading.the-variants as Reading
 use Rattle.records.specs.Records.{Entry, entryAt, entriesFrom, entries}
 use Rattle.records.specs.Records.Entry.{link, offer, fault}
 use Rattle.records.specs.Market.{membersOf, linksOf}
-use Rattle.records.specs.Cases.{readingOf}
+use Rattle.records.specs.inner.Cases.{readingOf}
 use Rattle.records.proofs.Reading.{the-type}
 use Rattle.records.proofs.Entries.{rest, ended, link-is, link-units, not-link, LinkFits, Fits, entry-fits}
-use Rattle.market.specs.Feeder.{capacityOf}
+use Rattle.market.specs.inner.Feeders.{capacityOf}
 
 -- ---- the links from record i on, of n records
 

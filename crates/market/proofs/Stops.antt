@@ -14,7 +14,7 @@ use lib.Dec.{eqb}
 use Rattle.problem.proofs.Count.{same?}
 use Rattle.problem.proofs.Steps.{Hop}
 use Rattle.network.proofs.Order.{freeMask, onMask, hop, on-hit, on-miss, on-lt, Walking, WalkOf, walking-more, walking-done}
-use Rattle.market.specs.Cases.{onwardOf}
+use Rattle.market.specs.inner.Cases.{onwardOf}
 use Rattle.market.specs.declared.order.Onward.{Onward}
 use Rattle.market.specs.declared.order.Onward.the-variants as Onward
 

@@ -21,7 +21,7 @@ use Rattle.records.specs.declared.Reading.{Reading}
 use Rattle.records.specs.declared.Reading.the-variants as Reading
 use Rattle.records.specs.Records.{Entry, entryAt, entriesFrom, entries}
 use Rattle.records.specs.Records.Entry.{link, offer, fault}
-use Rattle.records.specs.Cases.{readingOf}
+use Rattle.records.specs.inner.Cases.{readingOf}
 use Rattle.records.specs.Market.{offersOf}
 use Rattle.records.proofs.Reading.{the-type}
 use Rattle.records.proofs.Entries.{rest, ended, offer-is, not-offer, Fits, entry-fits}

@@ -23,7 +23,7 @@ use Rattle.records.specs.Records.{entries}
 use Rattle.records.specs.Refusals.{placeIf}
 use Rattle.records.specs.Market.{membersOf, linksOf, marketOf}
 use Rattle.market.specs.Refusals.{lowestMember, apart}
-use Rattle.market.specs.Feeder.{memberAt, fromAt, positionOf, capacityOf}
+use Rattle.market.specs.inner.Feeders.{memberAt, fromAt, positionOf, capacityOf}
 use Rattle.market.proofs.LinkRecords.{links-within}
 
 -- ---- the market is on a tree

@@ -1,3 +1,2 @@
 pub mod Refusals
-pub mod Cases
-pub mod Feeder
+pub mod inner

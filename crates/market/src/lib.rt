@@ -1,7 +1,7 @@
 // Everything between the reading of records and the clearing: a file is either refused under 1 to 10, or it is a market on
 // a tree whose walk is known. Nothing is asked of a file's bytes.
 ghost use mathlib.Core.Path.{_≡_};
-ghost use Rattle.market.specs.Feeder.{feederOf};
+ghost use Rattle.market.specs.inner.Feeders.{feederOf};
 use records::Verdict;
 
 mod bits;

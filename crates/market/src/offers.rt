@@ -8,7 +8,7 @@ ghost use lib.ListN.{length, getD};
 ghost use Rattle.records.specs.Records.{entryAt, entries};
 ghost use Rattle.records.specs.Market.{membersOf, offersOf, marketOf};
 ghost use Rattle.market.specs.Refusals.{offersBy, without, tooMany};
-ghost use Rattle.market.specs.Cases.{placeOf};
+ghost use Rattle.market.specs.inner.Cases.{placeOf};
 use crate::Place;
 use numbers::Member;
 use records::Reading;

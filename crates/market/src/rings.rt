@@ -9,7 +9,7 @@ ghost use Rattle.network.proofs.Bit.{holds};
 ghost use Rattle.network.proofs.Parts.{touches, Merged};
 ghost use Rattle.records.specs.Records.{entries};
 ghost use Rattle.market.specs.Refusals.{firstRecord, closes};
-ghost use Rattle.market.specs.Cases.{placeOf};
+ghost use Rattle.market.specs.inner.Cases.{placeOf};
 use crate::Place;
 use crate::bits::has;
 use crate::bits::join;

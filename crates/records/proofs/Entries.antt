@@ -28,7 +28,7 @@ use Rattle.records.specs.declared.Reading.the-variants as Reading
 use Rattle.records.specs.Records.{Entry, byte, two, four, linkOf, offerOf, entryAt, entriesFrom}
 use Rattle.records.specs.Records.Entry.{link, offer, fault}
 use Rattle.records.specs.Refusals.{Refusal, refusal, _otherwise_, placeIf, fileLimit, tooLong, faulty, unsound}
-use Rattle.records.specs.Cases.{readingOf}
+use Rattle.records.specs.inner.Cases.{readingOf}
 use Rattle.records.proofs.Reading.{the-type}
 
 -- ---- the records from i on, of n: record i and those from i + 1 on, or none

@@ -1,6 +1,6 @@
 pub mod Records
 pub mod Refusals
-pub mod Cases
 pub mod Market
 pub mod Answer
 pub mod Starred
+pub mod inner

@@ -5,7 +5,7 @@ ghost use Prim.Native.Nat.{_+_, _*_, _≤_};
 ghost use lib.ListN.{length};
 ghost use Rattle.records.specs.Records.{linkOf, offerOf, entryAt};
 ghost use Rattle.records.specs.Refusals.{unsound};
-ghost use Rattle.records.specs.Cases.{readingOf, verdictOf};
+ghost use Rattle.records.specs.inner.Cases.{readingOf, verdictOf};
 use numbers::Member;
 use numbers::Price;
 use numbers::Units;

@@ -11,7 +11,7 @@ use lib.Seq.{getD-set-same, getD-set-other, getD-take}
 use borrow.Author.Tests.{lt-ltb, le-ltb}
 use Rattle.problem.proofs.Cell.{_⊕_, ⊕-comm}
 use Rattle.problem.proofs.Max.{maxTo, argmax}
-use Rattle.rows.specs.Rows.{meets}
+use Rattle.rows.specs.inner.Rows.{meets}
 
 -- ---- the sum of two cells
 pub none-left : (a b : ℕ) → a ≡ 0 → 0 ≡ a ⊕ b

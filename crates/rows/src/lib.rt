@@ -15,7 +15,7 @@ ghost use Rattle.problem.proofs.Prices.{cellOf};
 ghost use Rattle.records.specs.Records.{entries};
 ghost use Rattle.records.specs.Market.{offersOf};
 ghost use Rattle.records.specs.Answer.{orZero};
-ghost use Rattle.rows.specs.Rows.{meets, Combined, given};
+ghost use Rattle.rows.specs.inner.Rows.{meets, Combined, given};
 use numbers::Member;
 use numbers::Price;
 use numbers::Units;

@@ -7,7 +7,7 @@ use Prim.Native.Nat.{ℕ, _≤_}
 use native.Mathlib.Omega.{arith}
 use lib.ListN.{length, getD, take}
 use lib.Seq.{length-take-le}
-use Rattle.market.specs.Feeder.{built, feederOf}
+use Rattle.market.specs.inner.Feeders.{built, feederOf}
 use Rattle.market.specs.declared.Feeder.{Feeder}
 use Rattle.market.proofs.Sound.{sound-tree}
 use Rattle.market.proofs.Filled.{places-length}

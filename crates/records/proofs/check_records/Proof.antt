@@ -9,7 +9,7 @@ use borrow.Author.Needs.{needs}
 use borrow.Author.Tests.{lt-ltb, le-ltb, eq-eqb, ne-eqb}
 use Rattle.records.specs.Records.{entriesFrom, entries}
 use Rattle.records.specs.Refusals.{refusal, _otherwise_, placeIf, tooLong, notWhole, faulty, unsound}
-use Rattle.records.specs.Cases.{verdictOf}
+use Rattle.records.specs.inner.Cases.{verdictOf}
 use Rattle.records.proofs.Entries.{none-left, fault-here, no-fault-here}
 use Rattle.records.proofs.check_records.Statement.{statement}
 use Rattle.records.proofs.check_records.Tie as tie

@@ -4,7 +4,7 @@ use mir.Syntax.{w16}
 use mir.Facts.{toZ-pos}
 use borrow.Author.Tests.{lt-leb, le-leb, lt-ltb, le-ltb, eq-eqb, ne-eqb}
 use Rattle.records.specs.Records.{linkOf}
-use Rattle.records.specs.Cases.{readingOf}
+use Rattle.records.specs.inner.Cases.{readingOf}
 use borrow.Author.Needs.{needs}
 use Rattle.records.proofs.link_of.Statement.{statement}
 use Rattle.records.proofs.link_of.Tie as tie

@@ -5,7 +5,7 @@ use borrow.Author.Needs.{needs}
 use borrow.Author.Tests.{lt-leb, le-leb, not-true, not-false}
 use Rattle.numbers.specs.Whole.{within}
 use Rattle.records.specs.Records.{offerOf}
-use Rattle.records.specs.Cases.{readingOf}
+use Rattle.records.specs.inner.Cases.{readingOf}
 use Rattle.records.proofs.offer_of.Statement.{statement}
 use Rattle.records.proofs.offer_of.Tie as tie
 

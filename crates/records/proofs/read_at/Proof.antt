@@ -3,7 +3,7 @@ use native.Mathlib.Nat.{add-zero}
 use borrow.Author.Needs.{needs}
 use borrow.Author.Tests.{eq-eqb, ne-eqb}
 use Rattle.records.specs.Records.{entryAt}
-use Rattle.records.specs.Cases.{readingOf}
+use Rattle.records.specs.inner.Cases.{readingOf}
 use Rattle.records.proofs.read_at.Statement.{statement}
 use Rattle.records.proofs.read_at.Tie as tie
 

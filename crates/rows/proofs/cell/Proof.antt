@@ -6,7 +6,7 @@ use Prim.Native.Nat.{ℕ, _≤_, _+_, _-_}
 use lib.ListN.{length, getD}
 use Rattle.problem.proofs.Cell.{_⊕_}
 use Rattle.problem.proofs.Max.{maxTo, argmax}
-use Rattle.rows.specs.Rows.{meets}
+use Rattle.rows.specs.inner.Rows.{meets}
 use Rattle.rows.proofs.Turns.{better, no-better}
 use Rattle.rows.proofs.cell.Statement.{statement}
 use Rattle.rows.proofs.cell.Tie as tie

@@ -8,7 +8,7 @@ use lib.ListN.{length, getD, take, length-set}
 use lib.Seq.{length-take-le, getD-take}
 use borrow.Author.Count.{below-none}
 use Rattle.problem.proofs.Max.{maxTo, argmax, maxTo-ext, argmax-ext}
-use Rattle.rows.specs.Rows.{meets}
+use Rattle.rows.specs.inner.Rows.{meets}
 use Rattle.rows.proofs.Turns.{stored, copied-meets}
 use Rattle.rows.proofs.combine.Statement.{statement}
 use Rattle.rows.proofs.combine.Tie as tie

@@ -14,7 +14,7 @@ use mir.Facts.{toZ-ofZ}
 use borrow.Author.Needs.{needs}
 use borrow.Author.Tests.{ltb-true, not-true, not-false}
 use Rattle.numbers.proofs.Tests.{true-false}
-use Rattle.rows.specs.Rows.{given}
+use Rattle.rows.specs.inner.Rows.{given}
 use Rattle.rows.proofs.Gives.{given-none, price-in, other-member, not-for, is-for, unraised, raised}
 use Rattle.rows.proofs.put_record.Statement.{statement}
 use Rattle.rows.proofs.put_record.Tie as tie

@@ -8,7 +8,7 @@ use borrow.Author.Needs.{needs}
 use borrow.Author.Tests.{lt-ltb, le-ltb}
 use Rattle.records.specs.Market.{marketOf}
 use Rattle.market.specs.Refusals.{tooMany}
-use Rattle.market.specs.Cases.{placeOf}
+use Rattle.market.specs.inner.Cases.{placeOf}
 use Rattle.market.proofs.Looked.{Looked, looked-start, looked-none, looked-hit, looked-more}
 use Rattle.market.proofs.offers.too_many_offers.Statement.{statement}
 use Rattle.market.proofs.offers.too_many_offers.Tie as tie

@@ -8,7 +8,7 @@ use borrow.Author.Needs.{needs}
 use borrow.Author.Tests.{eq-eqb, ne-eqb}
 use Rattle.records.specs.Market.{marketOf}
 use Rattle.market.specs.Refusals.{without}
-use Rattle.market.specs.Cases.{placeOf}
+use Rattle.market.specs.inner.Cases.{placeOf}
 use Rattle.market.proofs.Looked.{Looked, looked-start, looked-none, looked-hit, looked-more}
 use Rattle.market.proofs.offers.without_offer.Statement.{statement}
 use Rattle.market.proofs.offers.without_offer.Tie as tie

@@ -6,7 +6,7 @@ use borrow.Author.Needs.{needs}
 use lib.ListN.{getD}
 use Rattle.records.specs.Records.{entries}
 use Rattle.records.specs.Market.{linksOf}
-use Rattle.market.specs.Feeder.{places, capacityOf}
+use Rattle.market.specs.inner.Feeders.{places, capacityOf}
 use Rattle.market.proofs.Filled.{places-none, places-more}
 use Rattle.market.proofs.order.capacities.Statement.{statement}
 use Rattle.market.proofs.order.capacities.Tie as tie

@@ -9,7 +9,7 @@ use lib.ListN.{length}
 use Rattle.problem.specs.Problem.{Link}
 use Rattle.records.specs.Records.{entries, entriesFrom}
 use Rattle.records.specs.Market.{linksOf}
-use Rattle.market.specs.Feeder.{capacityOf}
+use Rattle.market.specs.inner.Feeders.{capacityOf}
 use Rattle.market.proofs.LinkRecords.{links-all, links-none, links-skip, capacity-next, capacity-read, capacity-byte}
 use Rattle.market.proofs.order.capacity_of.Statement.{statement}
 use Rattle.market.proofs.order.capacity_of.Tie as tie

@@ -1,7 +1,7 @@
 -- `refused` meets its contract, by computation. Assumes nothing.
 use mathlib.Core.Path.{refl}
-use Rattle.records.specs.Cases.{verdictOf}
-use Rattle.market.specs.Feeder.{built, places}
+use Rattle.records.specs.inner.Cases.{verdictOf}
+use Rattle.market.specs.inner.Feeders.{built, places}
 use Rattle.market.proofs.order.refused.Statement.{statement}
 use Rattle.market.proofs.order.refused.Tie as tie
 

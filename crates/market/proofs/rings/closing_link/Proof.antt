@@ -8,7 +8,7 @@ use borrow.Author.Needs.{needs}
 use lib.IntN.{natAbs}
 use lib.ListN.{length}
 use Rattle.records.proofs.Entries.{LinkFits}
-use Rattle.market.specs.Cases.{placeOf}
+use Rattle.market.specs.inner.Cases.{placeOf}
 use Rattle.market.proofs.Scan.{Pass, At, Searched, pass-start, pass-end, pass-skip, ends-fit, at-link, at-low, at-high, searched-none, searched-more, pass-hit, room, pass-link}
 use Rattle.market.proofs.rings.closing_link.Statement.{statement}
 use Rattle.market.proofs.rings.closing_link.Tie as tie
