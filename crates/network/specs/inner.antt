@@ -1,1 +1,2 @@
 pub mod Feeders
+pub mod Laid

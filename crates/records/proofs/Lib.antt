@@ -3,5 +3,4 @@ pub mod Allowed
 pub mod Starred
 pub mod Written
 pub mod Carried
-pub mod Filled
 pub mod Settled

@@ -8,8 +8,9 @@ use native.Mathlib.Numerals.{add-one}
 use lib.ListN.{length, length-append, take, drop, length-take, length-drop, drop-of-length-le}
 use lib.Seq.{take-at, drop-at, drop-length, take-length, drop-drop}
 use borrow.Rule.Slice.PartMut.{putMid}
 use Rattle.records.specs.Answer.{each}
 use Rattle.records.proofs.Written.{each-prefix}
+use Rattle.answer.specs.inner.Words.{Filled}
 
 -- a part that is lent, of a list p ++ q
 module _ (p q : List ℕ) (a : ℕ) (e : length p ≡ a) where
@@ -42,11 +43,6 @@ module _ (b p q r : List ℕ) (a e : ℕ) (p-ends : length p ≡ a) (q-fills : l
       let now : l₂ ≡ (p ++ q) ++ d = put ∙ middle is h in
       let y : y₂ ≡ r ++ drop k d = g ∙ (rw (now, tail-is (p ++ q) d e len) refl) in
       rw (now, put-tail (p ++ q) d e len y₂, y, drop-drop k e b, ends) (simp append-assoc)
-
--- the first i lists of f stand at the start of `out`, up to the place `at`, and the rest is as in `before`
-pub record Filled (f : ℕ → List ℕ) (i : ℕ) (before : List ℕ) (at : ℕ) (out : List ℕ) : Type 0 where
-  pub at-is : at ≡ length (each i f)
-  pub out-is : out ≡ each i f ++ drop at before
 
 module _ (f : ℕ → List ℕ) (before : List ℕ) where
   pub filled-none : Filled f 0 before 0 before

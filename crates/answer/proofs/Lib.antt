@@ -1,0 +1,4 @@
+pub mod Filled
+pub mod Seating
+pub mod Sizes
+pub mod Joints

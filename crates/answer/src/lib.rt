@@ -1,0 +1,74 @@
+// The answer's records, written from nets and flows that stand by the positions of a feeder: members in order, links by
+// their lower and then their higher member, and the total. Each writer is lent the part of the answer area that starts at
+// its first byte, and leaves what follows its last one.
+ghost use mathlib.Core.Path.{_≡_};
+ghost use mathlib.Core.List.{List, _++_};
+ghost use Prim.Native.Nat.{_*_, _≤_};
+ghost use lib.ListN.{length, drop};
+ghost use lib.IntN.{ℤ};
+ghost use Rattle.problem.specs.Problem.{Market};
+ghost use Rattle.network.specs.inner.Feeders.{Sound};
+ghost use Rattle.records.specs.Answer.{each, answerOf};
+ghost use Rattle.answer.specs.inner.Words.{Settles, Placed, memberBy};
+use network::Feeder;
+use numbers::Member;
+use numbers::Price;
+use numbers::Units;
+
+mod links;
+mod put;
+
+// The position of each member, member 1's first.
+fn places(feeder: Feeder) -> [u8; 32]
+    requires { ⌜ Sound feeder ⌝ }
+    ensures { λ r. ⌜ Placed feeder r ⌝ }
+{
+    let mut place = [0u8; 32];
+    let mut i: u8 = 0;
+    while i < feeder.members {
+        let member = feeder.member[i as usize];
+        place[member.index()] = i;
+        i += 1;
+    }
+    place
+}
+
+// The members' records, with the value that each member's table gives for its net.
+fn write_members(table: &[u8], feeder: Feeder, place: [u8; 32], net: [Units; 32], out: &mut [u8])
+    requires { ⌜ Sound feeder × Placed feeder place × (8 * feeder .members ≤ length (now out)) ⌝ }
+    ensures { λ _. ⌜ now (out .exit) ≡ each (feeder .members) (memberBy (now (table .entry)) place net) ++ drop (8 * feeder .members) (now (out .entry)) ⌝ }
+{
+    let members = feeder.members as usize;
+    let mut at: usize = 0;
+    let mut i: usize = 0;
+    while i < members {
+        let j = Member::at(i);
+        let x = net[place[i] as usize];
+        i += 1;
+        let value = rows::value_of(table, j, x);
+        put::put_member(&mut out[at..], j, x, value);
+        at += 8;
+    }
+}
+
+// The whole answer: the members' records; those of the links in the middle part, which is lent on; and the total.
+pub fn write(
+    table: &[u8],
+    feeder: Feeder,
+    net: [Units; 32],
+    sent: [Units; 32],
+    total: Price,
+    answer: &mut [u8],
+)
+    requires settles { ⌜ ((m : Market) × (ys : List ℤ) × Settles m ys (now table) feeder net sent) ⌝ }
+    requires room { ⌜ 16 * feeder .members ≤ length (now answer) ⌝ }
+    ensures { λ _. ⌜ ((m : Market) (ys : List ℤ) → Settles m ys (now (table .entry)) feeder net sent → now (answer .exit) ≡ answerOf m ys (total .0) ++ drop (16 * feeder .members) (now (answer .entry))) ⌝ }
+{
+    let place = places(feeder);
+    write_members(table, feeder, place, net, answer);
+    let members = feeder.members as usize;
+    let from = 8 * members;
+    let to = 16 * members - 8;
+    links::write_links(feeder, place, sent, &mut answer[from..to]);
+    put::put_total(&mut answer[to..], total);
+}
