@@ -145,12 +145,12 @@ module _ (f : List ℕ) (i : ℕ) (r : Reading) (is : r ≡ readingOf (entryAt f
       same-units d = given-offer j x ∙ rw (b, d)
 
     -- in a row whose cell 0 is for t units
-    module _ (j t : ℕ) (b : eqb j (m .0) ≡ true) where
-      pub not-for : (x : ℕ) → (pos t -ℤ u .0 ≡ pos x → ⊥) → given f i j (pos t -ℤ pos x) ≡ 0
-      not-for x h = other-units j (pos t -ℤ pos x) b (eqZ-other (pos t -ℤ pos x) (u .0) (λ q. h (exchanged (pos t) (pos x) (u .0) q)))
+    module _ (j : ℕ) (t : ℤ) (b : eqb j (m .0) ≡ true) where
+      pub not-for : (x : ℕ) → (t -ℤ u .0 ≡ pos x → ⊥) → given f i j (t -ℤ pos x) ≡ 0
+      not-for x h = other-units j (t -ℤ pos x) b (eqZ-other (t -ℤ pos x) (u .0) (λ q. h (exchanged t (pos x) (u .0) q)))
 
-      pub is-for : (x : ℕ) → pos t -ℤ u .0 ≡ pos x → given f i j (pos t -ℤ pos x) ≡ cellOf 1000000 (some (p .0))
-      is-for x q = same-units j (pos t -ℤ pos x) b (eqZ-same (pos t -ℤ pos x) (u .0) (exchanged (pos t) (u .0) (pos x) q))
+      pub is-for : (x : ℕ) → t -ℤ u .0 ≡ pos x → given f i j (t -ℤ pos x) ≡ cellOf 1000000 (some (p .0))
+      is-for x q = same-units j (t -ℤ pos x) b (eqZ-same (t -ℤ pos x) (u .0) (exchanged t (u .0) (pos x) q))
 
 -- ---- the higher of what a row has and g: where g is none, and at each place of the next row, where g has a cell at y only
 pub unraised : (c g : ℕ) → g ≡ 0 → c ≡ max c g

@@ -1,5 +1,5 @@
 // Rows of cells. A cell is a price or none in one number: 0 is none, and v + 1 is the price v - 1,000,000, so that the
-// higher cell is the better one. A member's table is read from the file as a row, and a message is taken into a row.
+// higher cell is the better one. A member's table is read from the records as a row, and a message is taken into a row.
 // Prices become cells in `cell_of` and cells become prices in `total_of`, nowhere else.
 ghost use mathlib.Core.Path.{_≡_};
 ghost use mathlib.Core.Bool.{true};
@@ -40,11 +40,11 @@ pub fn total_of(best: u32, n: u8) -> Price
 }
 
 // The cell that record i gives member j for x units.
-fn cell_at(file: &[u8], i: usize, j: Member, x: Units) -> u32
-    requires { ⌜ 8 * i + 8 ≤ length (now file) ⌝ }
-    ensures { λ r. ⌜ r ≡ given (now (file .entry)) i (j .0) (x .0) ⌝ }
+fn cell_at(records: &[u8], i: usize, j: Member, x: Units) -> u32
+    requires { ⌜ 8 * i + 8 ≤ length (now records) ⌝ }
+    ensures { λ r. ⌜ r ≡ given (now (records .entry)) i (j .0) (x .0) ⌝ }
 {
-    let Reading::Offer(m, u, p) = records::read_at(file, i) else {
+    let Reading::Offer(m, u, p) = records::read_at(records, i) else {
         return 0;
     };
     if !j.same(m) {
@@ -57,14 +57,14 @@ fn cell_at(file: &[u8], i: usize, j: Member, x: Units) -> u32
 }
 
 // The highest price that member j's table gives for x units, 0 where it gives none.
-pub fn value_of(file: &[u8], j: Member, x: Units) -> Price
-    ensures { λ r. ⌜ r .0 ≡ orZero (value (offersOf (entries (now (file .entry)))) (j .0) (x .0)) ⌝ }
+pub fn value_of(records: &[u8], j: Member, x: Units) -> Price
+    ensures { λ r. ⌜ r .0 ≡ orZero (value (offersOf (entries (now (records .entry)))) (j .0) (x .0)) ⌝ }
 {
-    let n = file.len() / 8;
+    let n = records.len() / 8;
     let mut best: u32 = 0;
     let mut i = 0;
     while i < n {
-        let c = cell_at(file, i, j, x);
+        let c = cell_at(records, i, j, x);
         if best < c {
             best = c;
         }
@@ -88,21 +88,21 @@ fn clear_cells(row: &mut [u32])
 }
 
 // The place of u units in a row whose cell 0 is for top units.
-fn place_of(top: u16, u: Units) -> i32
-    ensures { λ r. ⌜ r ≡ pos top -ℤ u .0 ⌝ }
+fn place_of(top: Units, u: Units) -> i32
+    ensures { λ r. ⌜ r ≡ top .0 -ℤ u .0 ⌝ }
 {
-    let zero = top as i32;
+    let zero = top.0 as i32;
     let units = u.0 as i32;
     zero - units
 }
 
 // Record i taken into member j's row, whose cell x is for top - x units: the cell that it is for becomes the higher of
 // what it holds and the offer's.
-fn put_record(file: &[u8], i: usize, j: Member, top: u16, row: &mut [u32])
-    requires { ⌜ 8 * i + 8 ≤ length (now file) ⌝ }
-    ensures { λ _. ⌜ ((x : ℕ) → x < length (now (row .entry)) → getD (now (row .exit)) x 0 ≡ max (getD (now (row .entry)) x 0) (given (now (file .entry)) i (j .0) (pos top -ℤ pos x))) ⌝ }
+fn put_record(records: &[u8], i: usize, j: Member, top: Units, row: &mut [u32])
+    requires { ⌜ 8 * i + 8 ≤ length (now records) ⌝ }
+    ensures { λ _. ⌜ ((x : ℕ) → x < length (now (row .entry)) → getD (now (row .exit)) x 0 ≡ max (getD (now (row .entry)) x 0) (given (now (records .entry)) i (j .0) (top .0 -ℤ pos x))) ⌝ }
 {
-    let Reading::Offer(m, u, p) = records::read_at(file, i) else {
+    let Reading::Offer(m, u, p) = records::read_at(records, i) else {
         return;
     };
     if !j.same(m) {
@@ -123,15 +123,14 @@ fn put_record(file: &[u8], i: usize, j: Member, top: u16, row: &mut [u32])
 }
 
 // Member j's own row: cell x is what its table gives for top - x units.
-pub fn own_row(file: &[u8], j: Member, top: u16, row: &mut [u32])
-    requires { ⌜ (top ≤ 10000) × (length (now row) ≤ 10000) ⌝ }
-    ensures { λ _. ⌜ ((x : ℕ) → x < length (now (row .entry)) → getD (now (row .exit)) x 0 ≡ cellOf 1000000 (value (offersOf (entries (now (file .entry)))) (j .0) (pos top -ℤ pos x))) ⌝ }
+pub fn own_row(records: &[u8], j: Member, top: Units, row: &mut [u32])
+    ensures { λ _. ⌜ ((x : ℕ) → x < length (now (row .entry)) → getD (now (row .exit)) x 0 ≡ cellOf 1000000 (value (offersOf (entries (now (records .entry)))) (j .0) (top .0 -ℤ pos x))) ⌝ }
 {
     clear_cells(row);
-    let n = file.len() / 8;
+    let n = records.len() / 8;
     let mut i = 0;
     while i < n {
-        put_record(file, i, j, top, row);
+        put_record(records, i, j, top, row);
         i += 1;
     }
 }

@@ -35,14 +35,15 @@ found c = index (toZ w32 (ofZ w32 (c .before .place-of .result))) (c .if2 .left)
 gives : (c : tie.After-place-of) → ℕ → ℕ
 gives c x =
     let a = c .before .before .before .before .before .before .before .before .before .args in
-    given (a .file .now) (a .i) (a .j .0) (pos (a .top) -ℤ pos x)
+    given (a .records .now) (a .i) (a .j .0) (a .top .0 -ℤ pos x)
 
 elsewhere : (c : tie.After-place-of) (x : ℕ) → (toZ w32 (ofZ w32 (c .place-of .result)) ≡ pos x → ⊥) → gives c x ≡ 0
 unfolding gives
 elsewhere c x h =
     let e = c .before in
     let o = e .before .before .before in
-    not-for _ _ _ (o .before .before .read-at .ensures) _ _ _ (o .m .given .1) _ _ (sym (e .before .same .ensures) ∙ not-false _ (e .if1 .left)) x (λ q. h (back c ∙ c .place-of .ensures ∙ q))
+    let a = o .before .before .before .before .before .args in
+    not-for _ _ _ (o .before .before .read-at .ensures) _ _ _ (o .m .given .1) _ (a .top .0) (sym (e .before .same .ensures) ∙ not-false _ (e .if1 .left)) x (λ q. h (back c ∙ c .place-of .ensures ∙ q))
 
 returns : tie.Need-returns
 returns c = λ x h. unraised _ _ (given-none _ _ _ (c .before .read-at .ensures) (c .match .keys2) _ _)
@@ -83,7 +84,8 @@ here c =
     let k = c .before .before in
     let e = k .before .before in
     let o = e .before .before .before in
-    is-for _ _ _ (o .before .before .read-at .ensures) _ _ _ (o .m .given .1) _ _ (sym (e .before .same .ensures) ∙ not-false _ (e .if1 .left)) _
+    let a = o .before .before .before .before .before .args in
+    is-for _ _ _ (o .before .before .read-at .ensures) _ _ _ (o .m .given .1) _ (a .top .0) (sym (e .before .same .ensures) ∙ not-false _ (e .if1 .left)) _
     (sym (back (k .before) ∙ k .before .place-of .ensures) ∙ sym (pos-natAbs _ (found k .0)))
     ∙ sym (c .cell-of .ensures)
 
