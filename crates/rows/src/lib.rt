@@ -2,20 +2,19 @@
 // higher cell is the better one. A member's table is read from the records as a row, and a message is taken into a row.
 // Prices become cells in `cell_of` and cells become prices in `total_of`, nowhere else.
 ghost use mathlib.Core.Path.{_≡_};
-ghost use mathlib.Core.Bool.{true};
+ghost use mathlib.Core.Bool.{true, cond};
 ghost use mathlib.Core.Option.{some};
 ghost use Prim.Native.Nat.{ℕ, _+_, _*_, _-_, _^_, _≤_, _<_, max};
-ghost use lib.IntN.{pos, negℤ, _-ℤ_};
+ghost use lib.IntN.{ℤ, pos, negℤ, _-ℤ_};
 ghost use lib.ListN.{length, getD};
-ghost use Rattle.numbers.specs.Whole.{within};
+ghost use Rattle.numbers.specs.Whole.{eqZ, within};
 ghost use Rattle.problem.specs.Problem.{value};
 ghost use Rattle.problem.proofs.Cell.{_⊕_};
 ghost use Rattle.problem.proofs.Max.{maxTo, argmax};
 ghost use Rattle.problem.proofs.Prices.{cellOf};
 ghost use Rattle.records.specs.Records.{entries};
 ghost use Rattle.records.specs.Market.{offersOf};
-ghost use Rattle.records.specs.Answer.{orZero};
-ghost use Rattle.rows.specs.inner.Rows.{meets, Combined, given};
+ghost use Rattle.rows.specs.inner.Rows.{given, worthOf, meets, Combined};
 use numbers::Member;
 use numbers::Price;
 use numbers::Units;
@@ -39,26 +38,56 @@ pub fn total_of(best: u32, n: u8) -> Price
     Price((best - 1) as i32 - shift as i32)
 }
 
+// What a record offers a member: a cell for some units, and none for any others.
+struct Offered {
+    units: Units,
+    cell: u32,
+}
+
+// What record i offers member j. A record of another member is not read any further.
+fn offer_at(records: &[u8], i: usize, j: Member) -> Offered
+    requires { ⌜ 8 * i + 8 ≤ length (now records) ⌝ }
+    ensures { λ r. ⌜ ((x : ℤ) → given (now (records .entry)) i (j .0) x ≡ cond (eqZ x (r .units .0)) (r .cell) 0) ⌝ }
+{
+    if records[8 * i + 1] != j.0 {
+        return Offered {
+            units: Units(0),
+            cell: 0,
+        };
+    }
+    let Reading::Offer(_, units, p) = records::read_at(records, i) else {
+        return Offered {
+            units: Units(0),
+            cell: 0,
+        };
+    };
+    Offered {
+        units,
+        cell: cell_of(p),
+    }
+}
+
 // The cell that record i gives member j for x units.
 fn cell_at(records: &[u8], i: usize, j: Member, x: Units) -> u32
     requires { ⌜ 8 * i + 8 ≤ length (now records) ⌝ }
     ensures { λ r. ⌜ r ≡ given (now (records .entry)) i (j .0) (x .0) ⌝ }
 {
-    let Reading::Offer(m, u, p) = records::read_at(records, i) else {
-        return 0;
-    };
-    if !j.same(m) {
+    let o = offer_at(records, i, j);
+    if !x.same(o.units) {
         return 0;
     }
-    if !x.same(u) {
-        return 0;
-    }
-    cell_of(p)
+    o.cell
 }
 
-// The highest price that member j's table gives for x units, 0 where it gives none.
-pub fn value_of(records: &[u8], j: Member, x: Units) -> Price
-    ensures { λ r. ⌜ r .0 ≡ orZero (value (offersOf (entries (now (records .entry)))) (j .0) (x .0)) ⌝ }
+// The worth of some units to a member: the highest price that its table gives for them, or nothing.
+pub enum Worth {
+    Price(Price),
+    Nothing,
+}
+
+// What x units are worth to member j.
+pub fn value_of(records: &[u8], j: Member, x: Units) -> Worth
+    ensures { λ r. ⌜ r ≡ worthOf (value (offersOf (entries (now (records .entry)))) (j .0) (x .0)) ⌝ }
 {
     let n = records.len() / 8;
     let mut best: u32 = 0;
@@ -71,9 +100,9 @@ pub fn value_of(records: &[u8], j: Member, x: Units) -> Price
         i += 1;
     }
     if best == 0 {
-        return Price(0);
+        return Worth::Nothing;
     }
-    total_of(best, 1)
+    Worth::Price(total_of(best, 1))
 }
 
 // Every cell of the row none.
@@ -102,13 +131,11 @@ fn put_record(records: &[u8], i: usize, j: Member, top: Units, row: &mut [u32])
     requires { ⌜ 8 * i + 8 ≤ length (now records) ⌝ }
     ensures { λ _. ⌜ ((x : ℕ) → x < length (now (row .entry)) → getD (now (row .exit)) x 0 ≡ max (getD (now (row .entry)) x 0) (given (now (records .entry)) i (j .0) (top .0 -ℤ pos x))) ⌝ }
 {
-    let Reading::Offer(m, u, p) = records::read_at(records, i) else {
-        return;
-    };
-    if !j.same(m) {
+    let o = offer_at(records, i, j);
+    if o.cell == 0 {
         return;
     }
-    let at = place_of(top, u);
+    let at = place_of(top, o.units);
     if at < 0 {
         return;
     }
@@ -116,9 +143,8 @@ fn put_record(records: &[u8], i: usize, j: Member, top: Units, row: &mut [u32])
     if row.len() <= x {
         return;
     }
-    let c = cell_of(p);
-    if row[x] < c {
-        row[x] = c;
+    if row[x] < o.cell {
+        row[x] = o.cell;
     }
 }
 

@@ -52,7 +52,7 @@ loop-again c =
     )
 
 returns : tie.Need-returns Inv-loop μ-loop
-returns c = sym (none-back 1000000 _ (sym (best-is (c .before)) ∙ c .if2 .taken))
+returns c = none-back 1000000 _ (sym (best-is (c .before)) ∙ c .if2 .taken)
 
 total-of-requires : tie.Need-total-of-requires Inv-loop μ-loop
 total-of-requires c κs =
@@ -66,9 +66,8 @@ returns-2 c =
     let l = c .before .before in
     let a = l .before .before .before .args in
     let v = value (offersOf (entries (a .records .now))) (a .j .0) (a .x .0) in
-    c .total-of .ensures
-    ∙ ap (λ (k : ℕ). pos (k - 1) -ℤ pos 1000000) (best-is l)
-    ∙ sym (price-back 1000000 v (value-low 1000000 (offersOf (entries (a .records .now))) (priced (a .records .now)) (a .j .0) (a .x .0)) (omega (arith, best-is l, c .before .if2 .left)))
+    price-back 1000000 v (c .total-of .result) (value-low 1000000 (offersOf (entries (a .records .now))) (priced (a .records .now)) (a .j .0) (a .x .0)) (omega (arith, best-is l, c .before .if2 .left))
+    (c .total-of .ensures ∙ ap (λ (k : ℕ). pos (k - 1) -ℤ pos 1000000) (best-is l))
 
 pub value-of-spec : {M : Type 1} → statement M
 value-of-spec =

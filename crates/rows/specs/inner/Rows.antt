@@ -1,19 +1,28 @@
 -- What one record gives a member, and a message taken into a row, cell by cell.
 use mathlib.Core.Path.{_≡_}
 use mathlib.Core.List.{List, [], _∷_}
+use mathlib.Core.Option.{Option, none, some}
 use Prim.Native.Nat.{ℕ, _+_, _-_, _<_}
 use lib.ListN.{length, getD}
 use lib.IntN.{ℤ}
+use Rattle.numbers.specs.inner.Held.{price}
 use Rattle.problem.specs.Problem.{value}
 use Rattle.problem.proofs.Cell.{_⊕_}
 use Rattle.problem.proofs.Max.{maxTo, argmax}
 use Rattle.problem.proofs.Prices.{cellOf}
 use Rattle.records.specs.Records.{entryAt}
 use Rattle.records.specs.Market.{offersOf}
+use Rattle.rows.specs.declared.Worth.{Worth}
+use Rattle.rows.specs.declared.Worth.the-variants as Worth
 
 -- the cell that record i alone gives member j for x units
 unfoldable pub given : List ℕ → ℕ → ℕ → ℤ → ℕ
 given f i j x = cellOf 1000000 (value (offersOf (entryAt f i ∷ [])) j x)
+
+-- the worth that a table gives
+unfoldable pub worthOf : Option ℤ → Worth
+worthOf none = Worth.Nothing
+worthOf (some v) = Worth.Price (price v)
 
 -- what the message at p makes with the row at cell x
 unfoldable pub meets : List ℕ → List ℕ → ℕ → ℕ → ℕ
