@@ -31,7 +31,7 @@ fn cell_of(p: Price) -> u32
 
 // The price of a cell that sums n prices, and is not none.
 pub fn total_of(best: u32, n: u8) -> Price
-    requires { ⌜ (1 ≤ best) × (best ≤ 64000001) × (n ≤ 32) ⌝ }
+    requires { ⌜ (1 ≤ best) × (best ≤ 2 ^ 31) ⌝ }
     ensures { λ r. ⌜ r .0 ≡ pos (best - 1) -ℤ pos (n * 1000000) ⌝ }
 {
     let shift = n as u32 * 1000000;
@@ -201,10 +201,11 @@ fn cell(row: &[u32], msg: &[u32], x: usize) -> Found
     Found { best, pick }
 }
 
-// Cells copied to the front of a store.
+// Cells copied to the front of a store; the cells past them stay.
 pub fn copy_cells(from: &[u32], to: &mut [u32])
     requires { ⌜ length (now from) ≤ length (now to) ⌝ }
     ensures { λ _. ⌜ ((x : ℕ) → x < length (now (from .entry)) → getD (now (to .exit)) x 0 ≡ getD (now (from .entry)) x 0) ⌝ }
+    ensures past { λ _. ⌜ ((x : ℕ) → length (now (from .entry)) ≤ x → getD (now (to .exit)) x 0 ≡ getD (now (to .entry)) x 0) ⌝ }
 {
     let mut i: usize = 0;
     while i < from.len() {
@@ -213,11 +214,12 @@ pub fn copy_cells(from: &[u32], to: &mut [u32])
     }
 }
 
-// A message taken into a row, with the choice that each cell was made by. The old row is kept beside the new one.
+// A message taken into a row, with the choice that each cell was made by. The old row is kept beside the new one. The cells
+// and choices past those that are left stay.
 pub fn combine(row: &mut [u32], msg: &[u32], choice: &mut [u8])
     requires sizes { ⌜ (1 ≤ length (now msg)) × (length (now msg) ≤ 81) × (length (now msg) ≤ length (now row)) × (length (now row) + 1 ≤ length (now choice) + length (now msg)) × (length (now row) ≤ 2481) ⌝ }
     requires values { ⌜ ((y : ℕ) → y < length (now row) → getD (now row) y 0 < 2 ^ 31) × ((p : ℕ) → p < length (now msg) → getD (now msg) p 0 < 2 ^ 31) ⌝ }
-    ensures { λ _. ⌜ Combined (now (row .entry)) (now (msg .entry)) (now (row .exit)) (now (choice .exit)) ⌝ }
+    ensures { λ _. ⌜ Combined (now (row .entry)) (now (msg .entry)) (now (choice .entry)) (now (row .exit)) (now (choice .exit)) ⌝ }
 {
     let mut old: [u32; 2481] = [0; 2481];
     copy_cells(row, &mut old);

@@ -59,7 +59,7 @@ total-of-requires c κs =
     let a = c .before .before .before .before .args in
     let t = cell-bound (a .j .0) (a .x .0) (a .records .now) in
     let e = best-is (c .before) in
-    (omega (arith, c .if2 .left), omega arith, omega arith)
+    (omega (arith, c .if2 .left), omega arith)
 
 returns-2 : tie.Need-returns-2 Inv-loop μ-loop
 returns-2 c =

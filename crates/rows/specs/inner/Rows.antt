@@ -2,7 +2,7 @@
 use mathlib.Core.Path.{_≡_}
 use mathlib.Core.List.{List, [], _∷_}
 use mathlib.Core.Option.{Option, none, some}
-use Prim.Native.Nat.{ℕ, _+_, _-_, _<_}
+use Prim.Native.Nat.{ℕ, _+_, _-_, _<_, _≤_}
 use lib.ListN.{length, getD}
 use lib.IntN.{ℤ}
 use Rattle.numbers.specs.inner.Held.{price}
@@ -28,7 +28,10 @@ worthOf (some v) = Worth.Price (price v)
 unfoldable pub meets : List ℕ → List ℕ → ℕ → ℕ → ℕ
 meets row msg x p = getD msg p 0 ⊕ getD row (x + (length msg - 1 - p)) 0
 
--- each cell that is left is the best that the message makes with the row, and its choice the smallest place that makes it
-pub record Combined (row msg row′ choice′ : List ℕ) : Type 0 where
+-- each cell that is left is the best that the message makes with the row, and its choice the smallest place that makes it;
+-- past those that are left, cells and choices are as they were
+pub record Combined (row msg choice row′ choice′ : List ℕ) : Type 0 where
   pub cells : (x : ℕ) → x < length row + 1 - length msg → getD row′ x 0 ≡ maxTo (meets row msg x) (length msg - 1)
   pub picks : (x : ℕ) → x < length row + 1 - length msg → getD choice′ x 0 ≡ argmax (meets row msg x) (length msg - 1)
+  pub past-cells : (x : ℕ) → length row + 1 - length msg ≤ x → getD row′ x 0 ≡ getD row x 0
+  pub past-picks : (x : ℕ) → length row + 1 - length msg ≤ x → getD choice′ x 0 ≡ getD choice x 0
