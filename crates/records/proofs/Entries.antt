@@ -233,10 +233,10 @@ unfolding refusal placeIf
 test-fails k true p e = let z : _≡_ {A = ℕ} 0 1 = cc (e) in absurd (omega arith)
 test-fails k false p e = refl
 
-pub short-file : (f : List ℕ) → refusal 1 (tooLong f) ≡ none → length f ≤ 16632
+pub short-file : (f : List ℕ) → refusal 1 (tooLong f) ≡ none → length f ≤ fileLimit
 unfolding tooLong
 short-file f e = ltb-false fileLimit (length f) (test-fails 1 (ltb fileLimit (length f)) 0 e)
 
-pub sound-short : (f : List ℕ) → unsound f ≡ none → length f ≤ 16632
+pub sound-short : (f : List ℕ) → unsound f ≡ none → length f ≤ fileLimit
 unfolding unsound
 sound-short f e = short-file f (both-none (refusal 1 (tooLong f)) _ e .0)
