@@ -32,7 +32,7 @@ placeIf true p = some p
 abbrev pub fileLimit : ℕ
 fileLimit = 16632
 
--- 1: more than 16,632 bytes
+-- 1: more bytes than that
 unfoldable pub tooLong : List ℕ → Option ℕ
 tooLong f = placeIf (ltb fileLimit (length f)) 0
 

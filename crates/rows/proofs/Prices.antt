@@ -1,5 +1,5 @@
 -- A price as a cell: cells keep the order of prices, and a cell that is not none gives its price back. Assumes nothing.
-use mathlib.Core.Path.{_≡_, refl, sym, _∙_}
+use mathlib.Core.Path.{_≡_, refl, sym, ap, _∙_}
 use mathlib.Core.Bool.{cond}
 use mathlib.Core.Option.{Option, none, some}
 use Prim.Native.Nat.{ℕ, suc, _+_, _-_, _≤_, max}
@@ -8,12 +8,16 @@ use lib.IntN.{ℤ, pos, negℤ, _+ℤ_, _-ℤ_}
 use lib.Signed.{leZ, ltZ, _≤ℤ_}
 use denote.Floats.{passes}
 use borrow.Author.Tests.{not-false}
+use Rattle.numbers.specs.declared.Price.{Price}
+use Rattle.numbers.specs.inner.Held.{price}
 use Rattle.numbers.proofs.Signs.{up, dn, added, taken, up-neg, dn-neg, equal, le-to, lt-to}
 use Rattle.numbers.proofs.Tests.{bool-cases, leZ-ltZ}
 use Rattle.problem.specs.Problem.{higher}
 use Rattle.problem.proofs.Choices.{apart}
 use Rattle.problem.proofs.Prices.{cellOf, Low}
-use Rattle.records.specs.Answer.{orZero}
+use Rattle.rows.specs.declared.Worth.{Worth}
+use Rattle.rows.specs.declared.Worth.the-variants as Worth
+use Rattle.rows.specs.inner.Rows.{worthOf}
 
 -- ---- cells keep the order of prices
 cell-le : (B : ℕ) (p q : ℤ) → up p + dn q ≤ dn p + up q → up (p +ℤ pos B) ≤ up (q +ℤ pos B)
@@ -39,14 +43,15 @@ unfolding cellOf
 cell-top B C p h = omega (arith, le-to h, added p (pos B), apart (p +ℤ pos B))
 
 -- ---- from a cell back to its price
-pub none-back : (B : ℕ) (v : Option ℤ) → cellOf B v ≡ 0 → orZero v ≡ pos 0
-unfolding cellOf orZero
+pub none-back : (B : ℕ) (v : Option ℤ) → cellOf B v ≡ 0 → Worth.Nothing ≡ worthOf v
+unfolding cellOf worthOf
 none-back B none e = refl
 none-back B (some p) e = absurd (omega arith)
 
-pub price-back : (B : ℕ) (v : Option ℤ) → Low B v → 1 ≤ cellOf B v → orZero v ≡ pos (cellOf B v - 1) -ℤ pos B
-unfolding cellOf orZero
-price-back B none l h = absurd (omega arith)
-price-back B (some p) l h =
-    equal p (pos (suc (up (p +ℤ pos B)) - 1) -ℤ pos B)
-    (omega (arith, taken (pos (suc (up (p +ℤ pos B)) - 1)) (pos B), added p (pos B), apart (p +ℤ pos B), le-to l, up-neg (pos B), dn-neg (pos B)))
+pub price-back : (B : ℕ) (v : Option ℤ) (q : Price) → Low B v → 1 ≤ cellOf B v → q .0 ≡ pos (cellOf B v - 1) -ℤ pos B → Worth.Price q ≡ worthOf v
+unfolding cellOf worthOf
+price-back B none q l h e = absurd (omega arith)
+price-back B (some p) q l h e =
+    let n = suc (up (p +ℤ pos B)) in
+    ap (λ (z : ℤ). Worth.Price (price z))
+    (e ∙ equal (pos (n - 1) -ℤ pos B) p (omega (arith, taken (pos (n - 1)) (pos B), added p (pos B), apart (p +ℤ pos B), le-to l, up-neg (pos B), dn-neg (pos B))))

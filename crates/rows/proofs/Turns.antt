@@ -6,8 +6,9 @@ use Prim.Native.Nat.{ℕ, zero, suc, _+_, _-_, _<_, _≤_}
 use native.Mathlib.Nat.{eq-or-lt-of-le}
 use native.Mathlib.Numerals.{add-one}
 use native.Mathlib.Omega.{arith}
-use lib.ListN.{length, getD, take, set}
+use lib.ListN.{length, getD, take, set, length-set}
 use lib.Seq.{getD-set-same, getD-set-other, getD-take}
+use borrow.Author.Count.{below-none}
 use borrow.Author.Tests.{lt-ltb, le-ltb}
 use Rattle.problem.proofs.Cell.{_⊕_, ⊕-comm}
 use Rattle.problem.proofs.Max.{maxTo, argmax}
@@ -41,14 +42,25 @@ module _ (f : ℕ → ℕ) (p best s : ℕ) (eb : best ≡ maxTo f p) (es : s �
       let z : s ≡ f (suc p) = es ∙ ap f (add-one p) in
       rw (add-one, le-ltb (maxTo f p) (f (suc p)) (omega arith)) (omega arith, ek)
 
--- ---- one more cell is stored
-pub stored : (xs : List ℕ) (x v : ℕ) (f : ℕ → ℕ) → x < length xs → ((y : ℕ) → y < x → getD xs y 0 ≡ f y) → v ≡ f x
-    → (y : ℕ) → y < x + 1 → getD (set xs x v) y 0 ≡ f y
-stored xs x v f l h e y d =
-    elim (eq-or-lt-of-le {n = y} {m = x} (omega arith)) [
-      | inl q ↦ subst (λ (t : ℕ). getD (set xs x v) t 0 ≡ f t) (sym q) (getD-set-same xs x v 0 l ∙ e)
-      | inr q ↦ getD-set-other xs x y v 0 (omega arith) ∙ h y q
-    ]
+-- ---- a row whose cells below x are made, and whose cells from x on are as they were
+pub record Made (f : ℕ → ℕ) (old row : List ℕ) (x : ℕ) : Type 0 where
+  pub len : length row ≡ length old
+  pub cells : (y : ℕ) → y < x → getD row y 0 ≡ f y
+  pub past : (y : ℕ) → x ≤ y → getD row y 0 ≡ getD old y 0
+
+pub none-made : (f : ℕ → ℕ) (row : List ℕ) → Made f row row 0
+none-made f row = record { len = refl; cells = below-none _; past = λ y h. refl }
+
+pub one-made : {f : ℕ → ℕ} {old row : List ℕ} {x v : ℕ} → Made f old row x → x < length row → v ≡ f x → Made f old (set row x v) (x + 1)
+one-made {f} {old} {row} {x} {v} m l e = record {
+  len = simp length-set (m .len);
+  cells = λ y h.
+      elim (eq-or-lt-of-le {n = y} {m = x} (omega arith)) [
+        | inl q ↦ subst (λ (t : ℕ). getD (set row x v) t 0 ≡ f t) (sym q) (getD-set-same row x v 0 l ∙ e)
+        | inr q ↦ getD-set-other row x y v 0 (omega arith) ∙ m .cells y q
+      ];
+  past = λ y h. getD-set-other row x y v 0 (omega arith) ∙ m .past y (omega arith);
+}
 
 -- ---- a message meets a copy of the row as it meets the row
 pub copied-meets : (row old msg : List ℕ) (x : ℕ) → ((y : ℕ) → y < length row → getD old y 0 ≡ getD row y 0)

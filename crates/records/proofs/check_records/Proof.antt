@@ -8,7 +8,7 @@ use lib.ListN.{length}
 use borrow.Author.Needs.{needs}
 use borrow.Author.Tests.{lt-ltb, le-ltb, eq-eqb, ne-eqb}
 use Rattle.records.specs.Records.{entriesFrom, entries}
-use Rattle.records.specs.Refusals.{refusal, _otherwise_, placeIf, tooLong, notWhole, faulty, unsound}
+use Rattle.records.specs.Refusals.{refusal, _otherwise_, placeIf, fileLimit, tooLong, notWhole, faulty, unsound}
 use Rattle.records.specs.inner.Cases.{verdictOf}
 use Rattle.records.proofs.Entries.{none-left, fault-here, no-fault-here}
 use Rattle.records.proofs.check_records.Statement.{statement}
@@ -16,22 +16,22 @@ use Rattle.records.proofs.check_records.Tie as tie
 
 abbrev Inv-loop : tie.InvT-loop
 Inv-loop file len n i₀ i =
-    (length file ≤ 16632) × (n ≡ length file / 8) × (i ≤ n) × (unsound file ≡ faulty i (entriesFrom file i (n - i)))
+    (length file ≤ fileLimit) × (n ≡ length file / 8) × (i ≤ n) × (unsound file ≡ faulty i (entriesFrom file i (n - i)))
 
 abbrev μ-loop : tie.MeasureT-loop
 μ-loop file len n i₀ i = n - i
 
 returns : tie.Need-returns Inv-loop μ-loop
 unfolding verdictOf unsound refusal _otherwise_ placeIf tooLong
-returns c = simp (lt-ltb 16632 _ (c .if1 .taken))
+returns c = simp (lt-ltb fileLimit _ (c .if1 .taken))
 
 returns-2 : tie.Need-returns-2 Inv-loop μ-loop
 unfolding verdictOf unsound refusal _otherwise_ placeIf tooLong notWhole
-returns-2 c = simp (le-ltb 16632 _ (c .before .if1 .left), ne-eqb _ 0 (c .if2 .taken))
+returns-2 c = simp (le-ltb fileLimit _ (c .before .if1 .left), ne-eqb _ 0 (c .if2 .taken))
 
 loop-holds : tie.Need-loop-holds Inv-loop μ-loop
 unfolding unsound refusal _otherwise_ placeIf tooLong notWhole entries
-loop-holds c = (omega arith, refl, omega arith, simp (le-ltb 16632 _ (c .before .if1 .left), eq-eqb _ 0 (c .if2 .left), sub-zero))
+loop-holds c = (omega arith, refl, omega arith, simp (le-ltb fileLimit _ (c .before .if1 .left), eq-eqb _ 0 (c .if2 .left), sub-zero))
 
 read-at-requires : tie.Need-read-at-requires Inv-loop μ-loop
 read-at-requires c κs = omega arith

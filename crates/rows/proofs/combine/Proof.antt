@@ -1,22 +1,21 @@
--- `combine` meets its contract. The loop's invariant: the cells and choices below x are new, made from the copy of the old row.
+-- `combine` meets its contract. The loop's invariant: the cells and choices below x are new, made from the copy of the old row;
+-- those from x on are as they were.
 -- Assumes nothing.
 use borrow.Author.Needs.{needs}
 use native.Mathlib.Omega.{arith}
-use mathlib.Core.Path.{_≡_, refl, sym, _∙_}
-use Prim.Native.Nat.{ℕ, _<_, _≤_, _-_}
-use lib.ListN.{length, getD, take, length-set}
+use mathlib.Core.Path.{_≡_, sym, _∙_}
+use Prim.Native.Nat.{_≤_, _-_}
+use lib.ListN.{length, take}
 use lib.Seq.{length-take-le, getD-take}
-use borrow.Author.Count.{below-none}
 use Rattle.problem.proofs.Max.{maxTo, argmax, maxTo-ext, argmax-ext}
 use Rattle.rows.specs.inner.Rows.{meets}
-use Rattle.rows.proofs.Turns.{stored, copied-meets}
+use Rattle.rows.proofs.Turns.{Made, none-made, one-made, copied-meets}
 use Rattle.rows.proofs.combine.Statement.{statement}
 use Rattle.rows.proofs.combine.Tie as tie
 
 abbrev Inv-loop : tie.InvT-loop
 Inv-loop row₀ msg choice₀ old n left x₀ row choice x =
-    (x ≤ left) × (length row ≡ length row₀) × (length choice ≡ length choice₀)
-    × ((y : ℕ) → y < x → getD row y 0 ≡ maxTo (meets row₀ msg y) (length msg - 1)) × ((y : ℕ) → y < x → getD choice y 0 ≡ argmax (meets row₀ msg y) (length msg - 1))
+    (x ≤ left) × Made (λ y. maxTo (meets row₀ msg y) (length msg - 1)) row₀ row x × Made (λ y. argmax (meets row₀ msg y) (length msg - 1)) choice₀ choice x
 
 abbrev μ-loop : tie.MeasureT-loop
 μ-loop row₀ msg choice₀ old n left x₀ row choice x = left - x
@@ -38,7 +37,7 @@ part : (c : tie.After-old3 Inv-loop μ-loop) → length (take (length (c .before
 part c = length-take-le _ _ (omega (arith, c .before .before .before .before .copy-cells .kept .1 .0, c .before .before .before .before .before .before .before .before .before .before .pre .0 .4))
 
 loop-holds : tie.Need-loop-holds Inv-loop μ-loop
-loop-holds c = (omega arith, refl, refl, below-none _, below-none _)
+loop-holds c = (omega arith, none-made _ _, none-made _ _)
 
 array-share-prefix-old : tie.Need-array-share-prefix-old Inv-loop μ-loop
 array-share-prefix-old c = omega arith
@@ -52,7 +51,7 @@ cell-requires c κs =
     let k = c .before .before .before .before .copy-cells in
     let l = part c in (
       (omega arith, omega arith, omega arith),
-      ((λ y h d. rw (getD-take (length (st .args .row .now)) (k .last .1 .0) y 0 (omega arith) ∙ k .ensures y (omega arith)) (st .pre .1 .0 y (omega arith))), st .pre .1 .1),
+      ((λ y h d. rw (getD-take (length (st .args .row .now)) (k .last .1 .0) y 0 (omega arith) ∙ k .ensures .0 y (omega arith)) (st .pre .1 .0 y (omega arith))), st .pre .1 .1),
     )
 
 mul-row : tie.Need-mul-row Inv-loop μ-loop
@@ -75,22 +74,23 @@ loop-again c =
     let st = c .before .before .before .before .before .before .before .before .before .before .before in
     let top = c .before .before .before in
     let i = top .loop .inv in
-    let m = copied-meets (st .args .row .now) (c .before .before .before .before .before .copy-cells .last .1 .0) (st .args .msg .now) (top .loop .x) (c .before .before .before .before .before .copy-cells .ensures) (omega arith) (omega arith) in (
+    let m = copied-meets (st .args .row .now) (c .before .before .before .before .before .copy-cells .last .1 .0) (st .args .msg .now) (top .loop .x) (c .before .before .before .before .before .copy-cells .ensures .0) (omega arith) (omega arith) in (
       omega arith,
-      simp length-set (i .1),
-      simp length-set (i .2),
-      stored (top .loop .row) (top .loop .x) _ (λ y. maxTo (meets (st .args .row .now) (st .args .msg .now) y) (length (st .args .msg .now) - 1)) (omega (arith, i .1)) (i .3) (c .cell .ensures .0 ∙ maxTo-ext _ _ _ m),
-      stored (top .loop .choice) (top .loop .x) _ (λ y. argmax (meets (st .args .row .now) (st .args .msg .now) y) (length (st .args .msg .now) - 1)) (omega (arith, i .2)) (i .4) (c .cell .ensures .1 ∙ argmax-ext _ _ _ m),
+      one-made (i .1) (omega arith) (c .cell .ensures .0 ∙ maxTo-ext _ _ _ m),
+      one-made (i .2) (omega arith) (c .cell .ensures .1 ∙ argmax-ext _ _ _ m),
     )
 
 same-length : tie.Need-same-length Inv-loop μ-loop
-same-length c = c .before .loop .inv .1
+same-length c = c .before .loop .inv .1 .len
 
 same-length-2 : tie.Need-same-length-2 Inv-loop μ-loop
-same-length-2 c = c .before .loop .inv .2
+same-length-2 c = c .before .loop .inv .2 .len
 
 returns : tie.Need-returns Inv-loop μ-loop
-returns c = record { cells = λ x l. c .before .loop .inv .3 x (omega arith); picks = λ x l. c .before .loop .inv .4 x (omega arith) }
+returns c =
+    let r = c .before .loop .inv .1 in
+    let d = c .before .loop .inv .2 in
+    record { cells = λ x h. r .cells x (omega arith); picks = λ x h. d .cells x (omega arith); past-cells = λ x h. r .past x (omega arith); past-picks = λ x h. d .past x (omega arith) }
 
 pub combine-spec : {M : Type 1} → statement M
 combine-spec =

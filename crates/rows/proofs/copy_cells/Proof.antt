@@ -1,21 +1,20 @@
 -- `copy_cells` meets its contract. The loop's invariant: the first i cells are copied. Assumes nothing.
 use native.Mathlib.Omega.{arith}
-use mathlib.Core.Path.{_≡_, refl}
-use Prim.Native.Nat.{ℕ, _<_, _≤_, _-_}
-use lib.ListN.{length, getD, length-set}
-use borrow.Author.Count.{below-none}
-use Rattle.rows.proofs.Turns.{stored}
+use mathlib.Core.Path.{refl}
+use Prim.Native.Nat.{_≤_, _-_}
+use lib.ListN.{length, getD}
+use Rattle.rows.proofs.Turns.{Made, none-made, one-made}
 use Rattle.rows.proofs.copy_cells.Statement.{statement}
 use Rattle.rows.proofs.copy_cells.Tie as tie
 
 abbrev Inv-loop : tie.InvT-loop
-Inv-loop from to₀ i₀ to i = (i ≤ length from) × (length to ≡ length to₀) × ((x : ℕ) → x < i → getD to x 0 ≡ getD from x 0)
+Inv-loop from to₀ i₀ to i = (i ≤ length from) × Made (λ x. getD from x 0) to₀ to i
 
 abbrev μ-loop : tie.MeasureT-loop
 μ-loop from to₀ i₀ to i = length from - i
 
 loop-holds : tie.Need-loop-holds Inv-loop μ-loop
-loop-holds c = (omega arith, refl, below-none _)
+loop-holds c = (omega arith, none-made _ _)
 
 mul-to : tie.Need-mul-to Inv-loop μ-loop
 mul-to c = omega arith
@@ -36,16 +35,15 @@ loop-less : tie.Need-loop-less Inv-loop μ-loop
 loop-less c = omega arith
 
 loop-again : tie.Need-loop-again Inv-loop μ-loop
-loop-again c =
-    let top = c .before .before in
-    let a = top .before .args in
-    (omega arith, simp length-set (top .loop .inv .1), stored (top .loop .to) (top .loop .i) _ (λ x. getD (a .from .now) x 0) (omega arith) (top .loop .inv .2) refl)
+loop-again c = (omega arith, one-made (c .before .before .loop .inv .1) (omega arith) refl)
 
 same-length : tie.Need-same-length Inv-loop μ-loop
-same-length c = c .before .loop .inv .1
+same-length c = c .before .loop .inv .1 .len
 
 returns : tie.Need-returns Inv-loop μ-loop
-returns c = λ x l. c .before .loop .inv .2 x (omega arith)
+returns c =
+    let m = c .before .loop .inv .1 in
+    ((λ x h. m .cells x (omega arith)), λ x h. m .past x (omega arith))
 
 pub copy-cells-spec : {M : Type 1} → statement M
 copy-cells-spec =

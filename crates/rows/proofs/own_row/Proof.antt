@@ -1,4 +1,4 @@
--- `own_row` meets its contract. The loop's invariant: at each place the whole file's cell is the higher of what the row has
+-- `own_row` meets its contract. The loop's invariant: at each place the whole table's cell is the higher of what the row has
 -- and what the records from i on give. Assumes nothing.
 use mathlib.Core.Path.{_≡_, refl, sym, _∙_}
 use Prim.Native.Nat.{ℕ, _<_, _≤_, _-_, _/_, max}
@@ -15,12 +15,12 @@ use Rattle.rows.proofs.own_row.Statement.{statement}
 use Rattle.rows.proofs.own_row.Tie as tie
 
 abbrev Inv-loop : tie.InvT-loop
-Inv-loop file j top row₀ n i₀ row i =
-    (n ≡ length file / 8) × (i ≤ n) × (length row ≡ length row₀)
-    × ((x : ℕ) → x < length row → cellOf 1000000 (value (offersOf (entries file)) (j .0) (pos top -ℤ pos x)) ≡ max (getD row x 0) (left file n (j .0) (pos top -ℤ pos x) i))
+Inv-loop records j top row₀ n i₀ row i =
+    (n ≡ length records / 8) × (i ≤ n) × (length row ≡ length row₀)
+    × ((x : ℕ) → x < length row → cellOf 1000000 (value (offersOf (entries records)) (j .0) (top .0 -ℤ pos x)) ≡ max (getD row x 0) (left records n (j .0) (top .0 -ℤ pos x) i))
 
 abbrev μ-loop : tie.MeasureT-loop
-μ-loop file j top row₀ n i₀ row i = n - i
+μ-loop records j top row₀ n i₀ row i = n - i
 
 clear-cells-requires : tie.Need-clear-cells-requires Inv-loop μ-loop
 clear-cells-requires c κs = search needs

@@ -1,4 +1,4 @@
--- `value_of` meets its contract. The loop's invariant: the whole file's cell is the higher of the best so far and what the
+-- `value_of` meets its contract. The loop's invariant: the whole table's cell is the higher of the best so far and what the
 -- records from i on give. Assumes nothing.
 use mathlib.Core.Path.{_≡_, refl, sym, ap, _∙_}
 use mathlib.Core.Logic.{⊎-elim}
@@ -16,16 +16,16 @@ use Rattle.rows.proofs.value_of.Statement.{statement}
 use Rattle.rows.proofs.value_of.Tie as tie
 
 abbrev Inv-loop : tie.InvT-loop
-Inv-loop file j x n best₀ i₀ best i =
-    (n ≡ length file / 8) × (i ≤ n) × (cellOf 1000000 (value (offersOf (entries file)) (j .0) (x .0)) ≡ max best (left file n (j .0) (x .0) i))
+Inv-loop records j x n best₀ i₀ best i =
+    (n ≡ length records / 8) × (i ≤ n) × (cellOf 1000000 (value (offersOf (entries records)) (j .0) (x .0)) ≡ max best (left records n (j .0) (x .0) i))
 
 abbrev μ-loop : tie.MeasureT-loop
-μ-loop file j x n best₀ i₀ best i = n - i
+μ-loop records j x n best₀ i₀ best i = n - i
 
--- once the records are through, the best is the whole file's cell
+-- once the records are through, the best is the whole table's cell
 best-is : (c : tie.After-loop Inv-loop μ-loop)
     → c .before .loop .best
-    ≡ cellOf 1000000 (value (offersOf (entries (c .before .before .before .args .file .now))) (c .before .before .before .args .j .0) (c .before .before .before .args .x .0))
+    ≡ cellOf 1000000 (value (offersOf (entries (c .before .before .before .args .records .now))) (c .before .before .before .args .j .0) (c .before .before .before .args .x .0))
 best-is c = sym (c .before .loop .inv .2 ∙ left-none _ _ _ _ _ _ (c .loop-test .left))
 
 loop-holds : tie.Need-loop-holds Inv-loop μ-loop
@@ -52,23 +52,22 @@ loop-again c =
     )
 
 returns : tie.Need-returns Inv-loop μ-loop
-returns c = sym (none-back 1000000 _ (sym (best-is (c .before)) ∙ c .if2 .taken))
+returns c = none-back 1000000 _ (sym (best-is (c .before)) ∙ c .if2 .taken)
 
 total-of-requires : tie.Need-total-of-requires Inv-loop μ-loop
 total-of-requires c κs =
     let a = c .before .before .before .before .args in
-    let t = cell-bound (a .j .0) (a .x .0) (a .file .now) in
+    let t = cell-bound (a .j .0) (a .x .0) (a .records .now) in
     let e = best-is (c .before) in
-    (omega (arith, c .if2 .left), omega arith, omega arith)
+    (omega (arith, c .if2 .left), omega arith)
 
 returns-2 : tie.Need-returns-2 Inv-loop μ-loop
 returns-2 c =
     let l = c .before .before in
     let a = l .before .before .before .args in
-    let v = value (offersOf (entries (a .file .now))) (a .j .0) (a .x .0) in
-    c .total-of .ensures
-    ∙ ap (λ (k : ℕ). pos (k - 1) -ℤ pos 1000000) (best-is l)
-    ∙ sym (price-back 1000000 v (value-low 1000000 (offersOf (entries (a .file .now))) (priced (a .file .now)) (a .j .0) (a .x .0)) (omega (arith, best-is l, c .before .if2 .left)))
+    let v = value (offersOf (entries (a .records .now))) (a .j .0) (a .x .0) in
+    price-back 1000000 v (c .total-of .result) (value-low 1000000 (offersOf (entries (a .records .now))) (priced (a .records .now)) (a .j .0) (a .x .0)) (omega (arith, best-is l, c .before .if2 .left))
+    (c .total-of .ensures ∙ ap (λ (k : ℕ). pos (k - 1) -ℤ pos 1000000) (best-is l))
 
 pub value-of-spec : {M : Type 1} → statement M
 value-of-spec =

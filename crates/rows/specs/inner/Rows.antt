@@ -1,25 +1,37 @@
 -- What one record gives a member, and a message taken into a row, cell by cell.
 use mathlib.Core.Path.{_≡_}
 use mathlib.Core.List.{List, [], _∷_}
-use Prim.Native.Nat.{ℕ, _+_, _-_, _<_}
+use mathlib.Core.Option.{Option, none, some}
+use Prim.Native.Nat.{ℕ, _+_, _-_, _<_, _≤_}
 use lib.ListN.{length, getD}
 use lib.IntN.{ℤ}
+use Rattle.numbers.specs.inner.Held.{price}
 use Rattle.problem.specs.Problem.{value}
 use Rattle.problem.proofs.Cell.{_⊕_}
 use Rattle.problem.proofs.Max.{maxTo, argmax}
 use Rattle.problem.proofs.Prices.{cellOf}
 use Rattle.records.specs.Records.{entryAt}
 use Rattle.records.specs.Market.{offersOf}
+use Rattle.rows.specs.declared.Worth.{Worth}
+use Rattle.rows.specs.declared.Worth.the-variants as Worth
 
 -- the cell that record i alone gives member j for x units
 unfoldable pub given : List ℕ → ℕ → ℕ → ℤ → ℕ
 given f i j x = cellOf 1000000 (value (offersOf (entryAt f i ∷ [])) j x)
 
+-- the worth that a table gives
+unfoldable pub worthOf : Option ℤ → Worth
+worthOf none = Worth.Nothing
+worthOf (some v) = Worth.Price (price v)
+
 -- what the message at p makes with the row at cell x
 unfoldable pub meets : List ℕ → List ℕ → ℕ → ℕ → ℕ
 meets row msg x p = getD msg p 0 ⊕ getD row (x + (length msg - 1 - p)) 0
 
--- each cell that is left is the best that the message makes with the row, and its choice the smallest place that makes it
-pub record Combined (row msg row′ choice′ : List ℕ) : Type 0 where
+-- each cell that is left is the best that the message makes with the row, and its choice the smallest place that makes it;
+-- past those that are left, cells and choices are as they were
+pub record Combined (row msg choice row′ choice′ : List ℕ) : Type 0 where
   pub cells : (x : ℕ) → x < length row + 1 - length msg → getD row′ x 0 ≡ maxTo (meets row msg x) (length msg - 1)
   pub picks : (x : ℕ) → x < length row + 1 - length msg → getD choice′ x 0 ≡ argmax (meets row msg x) (length msg - 1)
+  pub past-cells : (x : ℕ) → length row + 1 - length msg ≤ x → getD row′ x 0 ≡ getD row x 0
+  pub past-picks : (x : ℕ) → length row + 1 - length msg ≤ x → getD choice′ x 0 ≡ getD choice x 0
