@@ -3,17 +3,20 @@
 // its first byte, and leaves what follows its last one.
 ghost use mathlib.Core.Path.{_≡_};
 ghost use mathlib.Core.List.{List, _++_};
+ghost use mathlib.Core.Option.{Option};
 ghost use Prim.Native.Nat.{_*_, _≤_};
 ghost use lib.ListN.{length, drop};
 ghost use lib.IntN.{ℤ};
 ghost use Rattle.problem.specs.Problem.{Market};
 ghost use Rattle.network.specs.inner.Feeders.{Sound};
-ghost use Rattle.records.specs.Answer.{each, answerOf};
+ghost use Rattle.records.specs.Answer.{orZero, each, answerOf};
+ghost use Rattle.rows.specs.inner.Rows.{worthOf};
 ghost use Rattle.answer.specs.inner.Words.{Settles, Placed, memberBy};
 use network::Feeder;
 use numbers::Member;
 use numbers::Price;
 use numbers::Units;
+use rows::Worth;
 
 mod links;
 mod put;
@@ -33,10 +36,20 @@ fn places(feeder: Feeder) -> [u8; 32]
     place
 }
 
+// A value as the price that stands in a record: in an allocation that is possible every member has one.
+fn price_of(value: Worth) -> Price
+    ensures { λ r. ⌜ ((v : Option ℤ) → value ≡ worthOf v → r .0 ≡ orZero v) ⌝ }
+{
+    match value {
+        Worth::Price(price) => price,
+        Worth::Nothing => Price(0),
+    }
+}
+
 // The members' records, with the value that each member's table gives for its net.
-fn write_members(table: &[u8], feeder: Feeder, place: [u8; 32], net: [Units; 32], out: &mut [u8])
+fn write_members(records: &[u8], feeder: Feeder, place: [u8; 32], net: [Units; 32], out: &mut [u8])
     requires { ⌜ Sound feeder × Placed feeder place × (8 * feeder .members ≤ length (now out)) ⌝ }
-    ensures { λ _. ⌜ now (out .exit) ≡ each (feeder .members) (memberBy (now (table .entry)) place net) ++ drop (8 * feeder .members) (now (out .entry)) ⌝ }
+    ensures { λ _. ⌜ now (out .exit) ≡ each (feeder .members) (memberBy (now (records .entry)) place net) ++ drop (8 * feeder .members) (now (out .entry)) ⌝ }
 {
     let members = feeder.members as usize;
     let mut at: usize = 0;
@@ -45,7 +58,7 @@ fn write_members(table: &[u8], feeder: Feeder, place: [u8; 32], net: [Units; 32]
         let j = Member::at(i);
         let x = net[place[i] as usize];
         i += 1;
-        let value = rows::value_of(table, j, x);
+        let value = price_of(rows::value_of(records, j, x));
         put::put_member(&mut out[at..], j, x, value);
         at += 8;
     }
@@ -53,19 +66,19 @@ fn write_members(table: &[u8], feeder: Feeder, place: [u8; 32], net: [Units; 32]
 
 // The whole answer: the members' records; those of the links in the middle part, which is lent on; and the total.
 pub fn write(
-    table: &[u8],
+    records: &[u8],
     feeder: Feeder,
     net: [Units; 32],
     sent: [Units; 32],
     total: Price,
     answer: &mut [u8],
 )
-    requires settles { ⌜ ((m : Market) × (ys : List ℤ) × Settles m ys (now table) feeder net sent) ⌝ }
+    requires settles { ⌜ ((m : Market) × (ys : List ℤ) × Settles m ys (now records) feeder net sent) ⌝ }
     requires room { ⌜ 16 * feeder .members ≤ length (now answer) ⌝ }
-    ensures { λ _. ⌜ ((m : Market) (ys : List ℤ) → Settles m ys (now (table .entry)) feeder net sent → now (answer .exit) ≡ answerOf m ys (total .0) ++ drop (16 * feeder .members) (now (answer .entry))) ⌝ }
+    ensures { λ _. ⌜ ((m : Market) (ys : List ℤ) → Settles m ys (now (records .entry)) feeder net sent → now (answer .exit) ≡ answerOf m ys (total .0) ++ drop (16 * feeder .members) (now (answer .entry))) ⌝ }
 {
     let place = places(feeder);
-    write_members(table, feeder, place, net, answer);
+    write_members(records, feeder, place, net, answer);
     let members = feeder.members as usize;
     let from = 8 * members;
     let to = 16 * members - 8;

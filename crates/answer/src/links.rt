@@ -49,7 +49,13 @@ fn from_lower(lower: bool, sent: Units) -> Units
 }
 
 // The records of member a's links to higher members, in their order. Gives the number of bytes written.
-fn write_links_of(feeder: Feeder, place: [u8; 32], sent: [Units; 32], a: Member, out: &mut [u8]) -> usize
+fn write_links_of(
+    feeder: Feeder,
+    place: [u8; 32],
+    sent: [Units; 32],
+    a: Member,
+    out: &mut [u8],
+) -> usize
     requires feeder { ⌜ Sound feeder × Placed feeder place × Fitting feeder sent ⌝ }
     requires room { ⌜ (1 ≤ a .0) × (a .0 ≤ feeder .members) × (length (each (feeder .members) (linkBy feeder place sent (a .0))) ≤ length (now out)) ⌝ }
     ensures { λ r. ⌜ Filled (linkBy feeder place sent (a .0)) (feeder .members) (now (out .entry)) r (now (out .exit)) ⌝ }

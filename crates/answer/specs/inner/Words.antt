@@ -26,6 +26,7 @@ pub record Settles (m : Market) (ys : List ℤ) (table : List ℕ) (f : Feeder) 
   pub tables : m .offers ≡ offersOf (entries table)
   pub within : InRange (m .links) ys
   pub nets : (i : ℕ) → i < f .members → unitsIn net i ≡ P.net (memberAt f i) (m .links) ys
+  pub first : unitsIn sent 0 ≡ pos 0
   pub sends : (i : ℕ) → 1 ≤ i → i < f .members → unitsIn sent i ≡ P.sent (m .links) ys (memberAt f i) (memberAt f (parentAt f i))
 
 -- the position of member j
