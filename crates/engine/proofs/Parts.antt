@@ -52,6 +52,20 @@ module _ (xs ys : List ℕ) (a n : ℕ) (fits : a + n ≤ length xs) (size : len
       ∙ getD-drop a xs (n + (j - a - n)) 0
       ∙ ap (λ (t : ℕ). getD xs t 0) q
 
+-- ---- put_message, as the code has it: the part of the store lent to copy_cells, and what came back
+module _ (row msgs last : List ℕ) (v len : ℕ) (lm : v * 81 + len ≤ length msgs) (lr : len ≤ length row) where
+  pub put-law : length last ≡ length (partOf msgs (v * 81) (v * 81 + len - v * 81)) → ((x : ℕ) → x < length (take len row) → getD last x 0 ≡ getD (take len row) x 0)
+      → ((x : ℕ) → x < len → getD (putAt msgs (v * 81) (v * 81 + len - v * 81) last) (v * 81 + x) 0 ≡ getD row x 0)
+      × ((j : ℕ) → v * 81 + len ≤ j → getD (putAt msgs (v * 81) (v * 81 + len - v * 81) last) j 0 ≡ getD msgs j 0)
+  put-law ll e =
+      let n : ℕ = v * 81 + len - v * 81 in
+      let fit : v * 81 + n ≤ length msgs = omega arith in
+      let size : length last ≡ n = ll ∙ length-part msgs (v * 81) n fit in
+      let r : length (take len row) ≡ len = length-take-le len row lr in (
+        λ x d. put-in msgs last (v * 81) n fit size x (omega arith) ∙ e x (omega arith) ∙ getD-take len row x 0 d,
+        λ j d. put-after msgs last (v * 81) n fit size j (omega arith),
+      )
+
 -- ---- take_in, as the code has it: the three parts lent to combine, and what came back
 module _ (msgs row store : List ℕ) (i w len c : ℕ) (cs : c ≡ slotOf i) (lm : i * 81 + w + 1 ≤ length msgs) (lr : len ≤ length row) (wl : w < len)
     (ls : c + (len - w) ≤ length store) where
