@@ -55,7 +55,17 @@ module _ (k : Walk) (n : ℕ) (s : Shape k n) where
       past j a q true t = absurd (o (ap (λ (u : ℕ). k .par u) (eqb-true i j t) ∙ q))
       past j a q false t = omega (arith, eqb-false i j t)
 
-  -- ---- a child i, whose message is taken in
+  -- ---- a child i, whose message is taken in: what take_in asks, and the row afterwards
+  abbrev pub Asked : List ℕ → List ℕ → ℕ → ℕ → ℕ → Type 0
+  Asked msgs row i w len =
+      ((1 ≤ i) × (i < 32) × (w ≤ 80) × (w < len) × (len ≤ w + (80 * (i - 1) + 1)))
+      × (((p : ℕ) → p ≤ w → getD msgs (i * 81 + p) 0 < 2 ^ 31) × ((x : ℕ) → x < len → getD row x 0 < 2 ^ 31))
+
+  abbrev pub Turned : List ℕ → List ℕ → List ℕ → ℕ → ℕ → ℕ → ℕ → Type 0
+  Turned row store msgs v w len i =
+      (row′ store′ : List ℕ) → Taken msgs row store row′ store′ i w len → length row′ ≡ length row → length store′ ≡ length store
+      → Gathering k n row′ store′ v (len - w) i
+
   module _ {row store msgs : List ℕ} {len i : ℕ} (g : Gathering k n row store (k .par i) len (suc i)) (h : 1 ≤ i) (m : Sent k n msgs (k .par i + 1)) where
     left : len ≡ 1 + (reach k i (k .par i) + k .wide i)
     left = omega (arith, g .count, reach-par k (s .rising) i h)
@@ -66,9 +76,7 @@ module _ (k : Walk) (n : ℕ) (s : Shape k n) where
     here : (x : ℕ) → x ≤ reach k (suc i) (k .par i) → getD row x 0 ≡ tab k n (suc i) (k .par i) x
     here x b = g .cells x (omega (arith, g .count))
 
-    -- what take_in asks
-    kid-fits : Small (k .row) → ((1 ≤ i) × (i < 32) × (k .wide i ≤ 80) × (k .wide i < len) × (len ≤ k .wide i + (80 * (i - 1) + 1)))
-        × (((p : ℕ) → p ≤ k .wide i → getD msgs (i * 81 + p) 0 < 2 ^ 31) × ((x : ℕ) → x < len → getD row x 0 < 2 ^ 31))
+    kid-fits : Small (k .row) → Asked msgs row i (k .wide i) len
     kid-fits o =
         let few = s .few in
         let high = g .high in (
@@ -113,10 +121,19 @@ module _ (k : Walk) (n : ℕ) (s : Shape k n) where
               let o = eqb-false j i q in
               old-pick j y a f o ∙ g .kept .kept j y a b c (λ z. omega (arith, d z)) f
 
+  -- as the code has it: v is the parent, and w how wide the link is
+  pub kid-law : {row store : List ℕ} {v w len i : ℕ} (msgs : List ℕ) → Gathering k n row store v len (suc i) → 1 ≤ i → Sent k n msgs (v + 1) → k .par i ≡ v
+      → w ≡ k .wide i → (Small (k .row) → Asked msgs row i w len) × Turned row store msgs v w len i
+  kid-law {row} {store} {v} {w} {len} {i} msgs g h m e we =
+      subst (λ (u : ℕ). (Small (k .row) → Asked msgs row i u len) × Turned row store msgs v u len i) (sym we)
+      (subst (λ (u : ℕ). Gathering k n row store u len (suc i) → Sent k n msgs (u + 1) → (Small (k .row) → Asked msgs row i (k .wide i) len) × Turned row store msgs u (k .wide i) len i) e
+      (λ g m. (kid-fits g h m, turn-kid g h m)) g m)
+
   -- ---- a member's first row, and its message in the end
-  pub start-law : (row store : List ℕ) (v len : ℕ) → v < n → len ≡ 1 + reach k n v → length row ≡ 2481 → length store ≡ 37231
-      → ((x : ℕ) → x < len → getD row x 0 ≡ k .row v x) → Kept k n store v n → Gathering k n row store v len n
-  start-law row store v len l c lr ls e kept =
+  pub start-law : (row store : List ℕ) (v len i : ℕ) → i ≡ n → v < n → len ≡ 1 + reach k n v → length row ≡ 2481 → length store ≡ 37231
+      → ((x : ℕ) → x < len → getD row x 0 ≡ k .row v x) → Kept k n store v n → Gathering k n row store v len i
+  start-law row store v len i q l c lr ls e kept =
+      subst (λ (t : ℕ). Gathering k n row store v len t) (sym q)
       record {
         low = l;
         high = omega arith;
