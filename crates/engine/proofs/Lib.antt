@@ -3,5 +3,6 @@ pub mod Tops
 pub mod Slots
 pub mod Parts
 pub mod Turns
+pub mod Passes
 pub mod Falls
 pub mod Fill
