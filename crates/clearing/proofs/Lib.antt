@@ -1,14 +1,2 @@
-pub mod Slots
-pub mod Parts
-pub mod Turns
-pub mod Passes
-pub mod Tops
-pub mod Joints
-pub mod Sizes
-pub mod Spread
-pub mod Positions
-pub mod Writing
+pub mod Agree
 pub mod Solved
-pub mod One
-pub mod Allowed
-pub mod Shams

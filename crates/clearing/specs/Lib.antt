@@ -1,2 +1,2 @@
-pub mod Cases
-pub mod Promise
+pub mod Outcome
+pub mod inner

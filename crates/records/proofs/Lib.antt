@@ -2,5 +2,3 @@ pub mod Entries
 pub mod Allowed
 pub mod Starred
 pub mod Written
-pub mod Carried
-pub mod Settled

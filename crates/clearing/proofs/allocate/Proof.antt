@@ -1,17 +1,12 @@
--- `allocate` meets its contract: the engine's cell and choices are the market's. Assumes nothing.
+-- `allocate` meets its contract: what the engine leaves of the market is its outcome.
 use borrow.Author.Needs.{needs}
 use mathlib.Core.Path.{sym, subst}
 use Prim.Native.Nat.{ℕ}
-use Rattle.clearing.specs.Promise.{Result}
-use Rattle.clearing.proofs.Solved.{chosen, nothing-result, cleared-result}
+use native.Mathlib.Omega.{arith}
+use Rattle.clearing.specs.Outcome.{Outcome}
+use Rattle.clearing.proofs.Solved.{best-small, nothing-left, settles, cleared-left}
 use Rattle.clearing.proofs.allocate.Statement.{statement}
 use Rattle.clearing.proofs.allocate.Tie as tie
-
-slice-aggregate-solve : tie.Need-slice-aggregate-solve
-slice-aggregate-solve c = search needs
-
-slice-aggregate-solve-2 : tie.Need-slice-aggregate-solve-2
-slice-aggregate-solve-2 c = search needs
 
 solve-requires : tie.Need-solve-requires
 solve-requires c κs = search needs
@@ -20,22 +15,20 @@ refusal-requires : tie.Need-refusal-requires
 refusal-requires c κs = search needs
 
 returns : tie.Need-returns
-returns c =
-    let st = c .before .before .before .before .before .before .before .before .before .before .before .before .before in
-    subst (λ (r : ℕ). Result (st .args .file .now) (st .args .area .now) r (st .args .area .now)) (sym (c .refusal .ensures))
-    (nothing-result (st .pre .0) (st .pre .1) (st .args .area .now) (st .pre .2) _ (c .before .before .before .before .solve .ensures .0) (c .before .if1 .taken))
+returns c m H =
+    let area = c .before .before .before .before .before .before .args .answer .now in
+    subst (λ (k : ℕ). Outcome m area k area) (sym (c .refusal .ensures)) (nothing-left H (c .before .before .before .solve .ensures) (c .before .if1 .taken) area)
 
-slice-aggregate-write : tie.Need-slice-aggregate-write
-slice-aggregate-write c = search needs
-
-slice-aggregate-write-2 : tie.Need-slice-aggregate-write-2
-slice-aggregate-write-2 c = search needs
+total-of-requires : tie.Need-total-of-requires
+total-of-requires c κs = (omega (arith, c .if1 .left), best-small (c .before .before .before .before .before .pre .0 .1) (c .before .before .solve .ensures))
 
 write-requires : tie.Need-write-requires
 write-requires c κs =
-    let s = c .before .before .before .before .before .before in
-    let st = c .before .before .before .before .before .before .before .before .before .before .before .before .before .before .before in
-    (chosen (st .pre .0) _ _ _ (search needs) (search needs) (s .solve .ensures .0) (s .solve .ensures .1 .0) (s .solve .ensures .1 .1) (c .before .before .before .if1 .left), st .pre .2)
+    let H = c .before .before .before .before .before .before .before .before .before .pre .0 .1 in
+    ((_, _, settles H (c .before .before .before .before .before .before .solve .ensures) (c .before .before .before .before .if1 .left)), c .before .before .before .before .before .before .before .before .before .pre .1)
+
+cast-result : tie.Need-cast-result
+cast-result c = search needs
 
 mul-result : tie.Need-mul-result
 mul-result c = search needs
@@ -44,22 +37,21 @@ same-length : tie.Need-same-length
 same-length c = search needs
 
 returns-2 : tie.Need-returns-2
-returns-2 c =
-    let st = c .before .before .before .before .before .before .before .before .before .before .before .before .before .before .before .before .before .before in
-    cleared-result (st .pre .0) (st .pre .1) (st .args .area .now) (st .pre .2) _ _ (c .before .before .before .before .before .before .before .before .before .solve .ensures .0) (c .before .before .before .before .before .before .if1 .left) (c .before .before .write .ensures)
+returns-2 c m H =
+    let S = c .before .before .before .before .before .before .before .before .before .before .solve .ensures in
+    let some = c .before .before .before .before .before .before .before .before .if1 .left in
+    cleared-left H S some _ _ _ (c .before .before .before .before .before .before .before .total-of .ensures) (c .before .before .before .write .ensures _ _ (settles H S some))
 
 pub allocate-spec : {M : Type 1} → statement M
 allocate-spec =
     tie.close
     (tie.spec
-    slice-aggregate-solve
-    slice-aggregate-solve-2
     solve-requires
     refusal-requires
     returns
-    slice-aggregate-write
-    slice-aggregate-write-2
+    total-of-requires
     write-requires
+    cast-result
     mul-result
     same-length
     returns-2)

@@ -1,7 +1,7 @@
 -- `refusal` meets its contract. Assumes nothing.
 use borrow.Author.Needs.{needs}
 use mathlib.Core.Path.{refl}
-use Rattle.clearing.specs.Promise.{code}
+use Rattle.clearing.specs.Outcome.{code}
 use Rattle.clearing.proofs.refusal.Statement.{statement}
 use Rattle.clearing.proofs.refusal.Tie as tie
 
