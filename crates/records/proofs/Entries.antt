@@ -196,13 +196,6 @@ faulty-on i (link l) es h = rw (add-one i)
 faulty-on i (offer o) es h = rw (add-one i)
 faulty-on i (fault k) es h = absurd (h k refl)
 
-faulty-none : (i : ℕ) (e : Entry) (es : List Entry) → faulty i (e ∷ es) ≡ none → (k : ℕ) → e ≡ fault k → ⊥
-unfolding faulty
-faulty-none i e es h k q =
-    let t : faulty i (fault k ∷ es) ≡ none = rw q at h in
-    let z : _≡_ {A = ℕ} 0 1 = cc (t) in
-    omega arith
-
 -- the pass at record i, of n; r is its reading
 module _ (f : List ℕ) (i n : ℕ) where
   pub none-left : n ≤ i → faulty i (entriesFrom f i (n - i)) ≡ none
