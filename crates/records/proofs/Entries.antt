@@ -143,9 +143,6 @@ pub record Known (k : ℕ) (e : Entry) : Type 0 where
 either : (k : ℕ) (t : Bool) (x y : Entry) → (t ≡ true → Known k x) → (t ≡ false → Known k y) → Known k (cond t x y)
 either k t x y f g = bool-cases t (λ b. Known k (cond b x y)) f g
 
-a-fault : (k n : ℕ) → 3 ≤ n → n ≤ 4 → Known k (fault n)
-a-fault k n g h = record { fits = (g, h); member-is = tt }
-
 link-known : (a b z c y x : ℕ) → Known a (linkOf a b z c y x)
 unfolding linkOf
 link-known a b z c y x =
@@ -156,7 +153,7 @@ link-known a b z c y x =
     let e2 = and-true (leb 1 a && ltb a b) (leb b 32) (and-true (leb 1 a && ltb a b && leb b 32) (eqb z 0) (e4 .0) .0) in
     let e1 = and-true (leb 1 a) (ltb a b) (e2 .0) in
     record { fits = record { low = leb-true 1 a (e1 .0); below = ltb-true a b (e1 .1); high = leb-true b 32 (e2 .1); small = leb-true c 40 (e4 .1) }; member-is = tt })
-    (λ e. a-fault a 4 (omega arith) (omega arith))
+    (λ e. record { fits = (omega arith, omega arith); member-is = tt })
 
 offer-known : (j : ℕ) (u p : ℤ) → Known j (offerOf j u p)
 unfolding offerOf
@@ -169,14 +166,14 @@ offer-known j u p =
     let us = within-true (negℤ (pos 2000)) (pos 2000) u (e2 .1) in
     let ps = within-true (negℤ (pos 1000000)) (pos 1000000) p (e3 .1) in
     record { fits = record { low = leb-true 1 j (e1 .0); high = leb-true j 32 (e1 .1); units-from = us .0; units-to = us .1; price-from = ps .0; price-to = ps .1 }; member-is = refl })
-    (λ e. a-fault j 4 (omega arith) (omega arith))
+    (λ e. record { fits = (omega arith, omega arith); member-is = tt })
 
 pub entry-known : (f : List ℕ) (i : ℕ) → Known (byte f i 1) (entryAt f i)
 unfolding entryAt
 entry-known f i =
     either (byte f i 1) (eqb (byte f i 0) 1) _ _
     (λ e. link-known (byte f i 1) (byte f i 2) (byte f i 3) (two f i 4) (byte f i 6) (byte f i 7))
-    (λ e. either (byte f i 1) (eqb (byte f i 0) 2) _ _ (λ d. offer-known (byte f i 1) (toZ w16 (two f i 2)) (toZ w32 (four f i 4))) (λ d. a-fault (byte f i 1) 3 (omega arith) (omega arith)))
+    (λ e. either (byte f i 1) (eqb (byte f i 0) 2) _ _ (λ d. offer-known (byte f i 1) (toZ w16 (two f i 2)) (toZ w32 (four f i 4))) (λ d. record { fits = (omega arith, omega arith); member-is = tt }))
 
 pub entry-fits : (f : List ℕ) (i : ℕ) → Fits (entryAt f i)
 entry-fits f i = entry-known f i .fits
@@ -198,13 +195,6 @@ unfolding faulty
 faulty-on i (link l) es h = rw (add-one i)
 faulty-on i (offer o) es h = rw (add-one i)
 faulty-on i (fault k) es h = absurd (h k refl)
-
-faulty-none : (i : ℕ) (e : Entry) (es : List Entry) → faulty i (e ∷ es) ≡ none → (k : ℕ) → e ≡ fault k → ⊥
-unfolding faulty
-faulty-none i e es h k q =
-    let t : faulty i (fault k ∷ es) ≡ none = rw q at h in
-    let z : _≡_ {A = ℕ} 0 1 = cc (t) in
-    omega arith
 
 -- the pass at record i, of n; r is its reading
 module _ (f : List ℕ) (i n : ℕ) where

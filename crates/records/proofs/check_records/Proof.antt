@@ -27,7 +27,7 @@ returns c = simp (lt-ltb fileLimit _ (c .if1 .taken))
 
 returns-2 : tie.Need-returns-2 Inv-loop μ-loop
 unfolding verdictOf unsound refusal _otherwise_ placeIf tooLong notWhole
-returns-2 c = simp (le-ltb fileLimit _ (c .before .if1 .left), ne-eqb _ 0 (c .if2 .taken))
+returns-2 c = simp (le-ltb fileLimit _ (c .before .if1 .left), ne-eqb _ 0 (c .if2 .taken)) refl
 
 loop-holds : tie.Need-loop-holds Inv-loop μ-loop
 unfolding unsound refusal _otherwise_ placeIf tooLong notWhole entries

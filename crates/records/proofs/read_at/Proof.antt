@@ -1,4 +1,5 @@
 -- `read_at` meets its contract: the bytes that it reads are those of the definition, kind before fields. Assumes nothing.
+use mathlib.Core.Path.{refl}
 use native.Mathlib.Nat.{add-zero}
 use borrow.Author.Needs.{needs}
 use borrow.Author.Tests.{eq-eqb, ne-eqb}
@@ -144,7 +145,7 @@ returns-2 c =
 
 returns-3 : tie.Need-returns-3
 unfolding entryAt readingOf
-returns-3 c = simp (add-zero, ne-eqb _ 1 (c .before .if1 .left), ne-eqb _ 2 (c .if2 .left))
+returns-3 c = simp (add-zero, ne-eqb _ 1 (c .before .if1 .left), ne-eqb _ 2 (c .if2 .left)) refl
 
 pub read-at-spec : {M : Type 1} → statement M
 read-at-spec =

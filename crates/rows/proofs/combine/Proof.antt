@@ -1,6 +1,5 @@
 -- `combine` meets its contract. The loop's invariant: the cells and choices below x are new, made from the copy of the old row;
--- those from x on are as they were.
--- Assumes nothing.
+-- those from x on are as they were. Assumes nothing.
 use borrow.Author.Needs.{needs}
 use native.Mathlib.Omega.{arith}
 use mathlib.Core.Path.{_≡_, sym, _∙_}

@@ -16,7 +16,9 @@ shared-slice-read-if1 : tie.Need-shared-slice-read-if1
 shared-slice-read-if1 c = search needs
 
 returns : tie.Need-returns
-returns c = λ x. nothing (eqZ x (pos 0)) (other-member _ _ _ (c .if1 .taken) x)
+returns c =
+    let a = c .before .before .before .before .args in
+    λ x. nothing (eqZ x (pos 0)) (other-member (a .records .now) (a .i) (a .j .0) (c .if1 .taken) x)
 
 read-at-requires : tie.Need-read-at-requires
 read-at-requires c κs = search needs

@@ -1,5 +1,5 @@
 -- `total_of` meets its contract: the difference of two numbers below 2 ^ 31 fits. Assumes nothing.
-use mathlib.Core.Path.{_≡_}
+use mathlib.Core.Path.{_≡_, sym, subst}
 use Prim.Native.Nat.{_*_, _-_}
 use native.Mathlib.Omega.{arith}
 use lib.IntN.{pos, _-ℤ_}
@@ -33,7 +33,7 @@ cast-t6 : tie.Need-cast-t6
 cast-t6 c = search needs
 
 sub-t7 : tie.Need-sub-t7
-sub-t7 c = rw (is c) (fits c)
+sub-t7 c = subst (SFits w32) (sym (is c)) (fits c)
 
 returns : tie.Need-returns
 returns c = rw (is c) (toZ-ofZ (fits c))
