@@ -1,14 +1,11 @@
 -- The downward pass, apart from any code: the choices read so far, and the indices after them. Assumes nothing.
 use mathlib.Core.Path.{_≡_, refl, sym, ap, ap₂, _∙_, subst, fun-ext}
-use mathlib.Core.Bool.{Bool, true, false}
-use Prim.Native.Nat.{ℕ, suc, _+_, _-_, _*_, _<_, _≤_}
+use Prim.Native.Nat.{ℕ, suc, _+_, _-_, _<_, _≤_}
 use native.Mathlib.Numerals.{add-one}
 use native.Mathlib.Omega.{arith}
-use mathlib.Core.List.{List, [], _∷_, _++_, append-nil}
-use lib.Dec.{ltb}
-use lib.ListN.{length, getD, take, set, replicate, length-set, length-replicate, getD-replicate, List·getD-eq-default}
+use mathlib.Core.List.{List, _∷_, _++_, append-nil}
+use lib.ListN.{length, getD, take, set, replicate, length-set}
 use lib.Seq.{take-suc-set, append-snoc, getD-take}
-use borrow.Author.Tests.{ltb-true, ltb-false}
 use Rattle.problem.proofs.Max.{first-max}
 use Rattle.problem.proofs.Form.{Walk, step, offer, picks}
 use Rattle.problem.proofs.Reach.{reach, at, Within, step-within, step-list}
@@ -18,16 +15,13 @@ use Rattle.problem.proofs.Closed.{indices}
 use Rattle.engine.specs.inner.Words.{slotOf, Kept, Settled}
 use Rattle.engine.proofs.Shape.{Shape, far}
 use Rattle.engine.proofs.Slots.{slot-end}
+use Rattle.engine.proofs.Fill.{blank}
 
 abbrev none : List ℕ
 none = replicate 32 0
 
-zeros : (j : ℕ) → at none j ≡ start j
-zeros j = go (ltb j 32) refl
-  where
-    go : (b : Bool) → ltb j 32 ≡ b → at none j ≡ start j
-    go true t = getD-replicate 32 j 0 0 (ltb-true j 32 t)
-    go false t = List·getD-eq-default none 0 {n = j} (omega (arith, ltb-false j 32 t, length-replicate {A = ℕ} 32 0))
+zeros : at none ≡ start
+zeros = fun-ext (blank 0)
 
 module _ (k : Walk) (n : ℕ) where
   abbrev total : List ℕ
@@ -46,9 +40,9 @@ module _ (k : Walk) (n : ℕ) where
       record {
         choices = refl;
         indexed = refl;
-        inside = λ j l. rw (zeros j) (omega arith);
-        done = ap (λ (x : ℕ → ℕ). 0 ∷ picks k (n - 1) 1 x) (fun-ext zeros);
-        same = ap (λ (x : ℕ → ℕ). indices k 1 x (picks k (n - 1) 1 x)) (fun-ext zeros);
+        inside = λ j l. omega (arith, blank {A = ℕ} 0 j);
+        done = ap (λ (x : ℕ → ℕ). 0 ∷ picks k (n - 1) 1 x) zeros;
+        same = ap (λ (x : ℕ → ℕ). indices k 1 x (picks k (n - 1) 1 x)) zeros;
       }
 
   pub fall-end : Shape k n → {choice index : List ℕ} {i : ℕ} → Falling choice index i → i ≡ n → Settled k n choice index

@@ -1,33 +1,38 @@
--- An array of units filled from the front, 0 past that. Assumes nothing.
+-- An array of 32 places filled from the front. Assumes nothing.
 use mathlib.Core.Path.{_≡_, refl, sym, ap, _∙_}
 use mathlib.Core.Bool.{Bool, true, false}
 use mathlib.Core.List.{List}
 use Prim.Native.Nat.{ℕ, _+_, _≤_, _<_}
 use native.Mathlib.Omega.{arith}
 use lib.Dec.{eqb, ltb}
-use lib.IntN.{ℤ, pos, _-ℤ_}
+use lib.IntN.{ℤ, pos}
 use lib.ListN.{length, getD, set, replicate, length-set, length-replicate, getD-replicate, List·getD-eq-default}
 use lib.Seq.{getD-set-same, getD-set-other}
 use borrow.Author.Tests.{eqb-true, eqb-false, ltb-true, ltb-false}
-use mir.Syntax.{w16}
-use mir.Val.{SFits}
-use Rattle.numbers.proofs.Signs.{up, dn, taken}
-use Rattle.numbers.proofs.Complement.{sfits-from}
 use Rattle.numbers.specs.declared.Units.{Units}
 use Rattle.numbers.specs.inner.Held.{units, unitsIn}
 
--- g below i
+-- ---- a new array, of any type: past its end stands the same
+pub blank : {A : Type 0} (d : A) (j : ℕ) → getD (replicate 32 d) j d ≡ d
+blank d j = go (ltb j 32) refl
+  where
+    go : (b : Bool) → ltb j 32 ≡ b → getD (replicate 32 d) j d ≡ d
+    go true t = getD-replicate 32 j d d (ltb-true j 32 t)
+    go false t = List·getD-eq-default (replicate 32 d) d {n = j} (omega (arith, ltb-false j 32 t, length-replicate 32 d))
+
+-- ---- g below i
 pub record Filled (g : ℕ → ℤ) (out : List Units) (i : ℕ) : Type 0 where
   pub size : length out ≡ 32
   pub done : (j : ℕ) → j < i → unitsIn out j ≡ g j
   pub rest : (j : ℕ) → i ≤ j → unitsIn out j ≡ pos 0
 
 pub filled-none : {g : ℕ → ℤ} → Filled g (replicate 32 (units (pos 0))) 0
-filled-none = record { size = refl; done = λ j l. absurd (omega arith); rest = λ j l. go j (ltb j 32) refl }
-  where
-    go : (j : ℕ) (b : Bool) → ltb j 32 ≡ b → unitsIn (replicate 32 (units (pos 0))) j ≡ pos 0
-    go j true t = ap (λ (u : Units). u .0) (getD-replicate 32 j (units (pos 0)) (units (pos 0)) (ltb-true j 32 t))
-    go j false t = ap (λ (u : Units). u .0) (List·getD-eq-default (replicate 32 (units (pos 0))) (units (pos 0)) {n = j} (omega (arith, ltb-false j 32 t, length-replicate 32 (units (pos 0)))))
+filled-none =
+    record {
+      size = refl;
+      done = λ j l. absurd (omega arith);
+      rest = λ j l. ap (λ (u : Units). u .0) (blank (units (pos 0)) j);
+    }
 
 pub filled-more : {g : ℕ → ℤ} {out : List Units} {i : ℕ} (u : Units) → Filled g out i → i < 32 → u .0 ≡ g i → Filled g (set out i u) (i + 1)
 filled-more {g} {out} {i} u f l e =
@@ -45,13 +50,3 @@ filled-more {g} {out} {i} u f l e =
         let q = eqb-true j i t in
         ap (λ (x : ℕ). unitsIn (set out i u) x) q ∙ ap (λ (u : Units). u .0) (getD-set-same out i u (units (pos 0)) (omega (arith, f .size))) ∙ e ∙ ap g (sym q)
     go j d false t = let o = eqb-false j i t in other j o ∙ f .done j (omega arith)
-
--- a difference of two such counts fits 16 bits
-pub less-fits : {a b : ℕ} (y z : ℤ) → y ≡ pos a → z ≡ pos b → a < 10000 → b < 10000 → SFits w16 (y -ℤ z)
-less-fits y z e g l m =
-    let d = taken y z in
-    let e₁ = ap up e in
-    let e₂ = ap dn e in
-    let g₁ = ap up g in
-    let g₂ = ap dn g in
-    sfits-from w16 (y -ℤ z) (omega arith) (omega arith)

@@ -6,3 +6,4 @@ pub mod Turns
 pub mod Passes
 pub mod Falls
 pub mod Fill
+pub mod Counts

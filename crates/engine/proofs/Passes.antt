@@ -1,15 +1,19 @@
--- The pass over all members, upward, apart from any code: what is ready before each and done after it. Assumes nothing.
-use mathlib.Core.Path.{_≡_, refl}
+-- The passes over all members, apart from any code: what is ready before each and done after it, and what all of it solves.
+-- Assumes nothing.
+use mathlib.Core.Path.{_≡_, refl, ap, _∙_}
 use mathlib.Core.List.{List}
 use Prim.Native.Nat.{ℕ, _-_, _<_, _≤_}
 use native.Mathlib.Omega.{arith}
 use lib.IntN.{pos, _-ℤ_}
+use lib.ListN.{getD}
+use Rattle.numbers.specs.declared.Units.{Units}
+use Rattle.problem.proofs.Table.{tab}
 use Rattle.network.specs.declared.Feeder.{Feeder}
-use Rattle.network.specs.inner.Feeders.{memberAt, parentAt, Sound}
+use Rattle.network.specs.inner.Feeders.{memberAt, parentAt, awayAt, Sound}
 use Rattle.records.specs.Records.{entries}
 use Rattle.records.specs.Market.{offersOf}
 use Rattle.rows.proofs.Gives.{cell-bound}
-use Rattle.engine.specs.inner.Words.{topOf, ownOf, Small, Ready, Done}
+use Rattle.engine.specs.inner.Words.{walkOf, topOf, ownOf, Small, Ready, Done, Settled, Flows, Solved}
 
 own-small : (f : Feeder) (table : List ℕ) → Small (ownOf f (offersOf (entries table)))
 unfolding ownOf
@@ -40,3 +44,14 @@ done-next f table msgs store v h d =
 
         more : (q : ℕ) → v - 1 ≤ q → (q ≡ v - 1 → ⊥) → v ≤ q
         more q l o = omega arith
+
+pub solved : (f : Feeder) (own : ℕ → ℕ → ℕ) (best : ℕ) (msgs store choice index : List ℕ) (net sent : List Units) → Sound f → Done f 0 msgs store own
+    → Settled (walkOf f own) (f .members) choice index → (best ≡ getD msgs 0 0) × Flows f choice index net sent → Solved f own best net sent
+unfolding tab
+solved f own best msgs store choice index net sent s d t e =
+    record {
+      best-is = e .0 ∙ d .sent .sent 0 0 (omega arith) (s .some) (omega arith);
+      nets = λ i l. e .1 .nets i l ∙ ap (λ (x : ℕ). pos (topOf f i) -ℤ pos x) (t .indexed i l);
+      sends = λ i l. e .1 .sends i l ∙ ap (λ (x : ℕ). pos x -ℤ pos (awayAt f i)) (t .choices i l);
+      past = e .1 .past;
+    }

@@ -18,6 +18,12 @@ use Rattle.engine.specs.inner.Words.{Small, slotOf, Sent, Kept, Taken}
 use Rattle.engine.proofs.Shape.{Shape, far, reach-first, reach-not}
 use Rattle.engine.proofs.Slots.{slot-apart}
 
+-- what take_in asks
+abbrev pub Asked : List ℕ → List ℕ → ℕ → ℕ → ℕ → Type 0
+Asked msgs row i w len =
+    ((1 ≤ i) × (i < 32) × (w ≤ 80) × (w < len) × (len ≤ w + (80 * (i - 1) + 1)))
+    × (((p : ℕ) → p ≤ w → getD msgs (i * 81 + p) 0 < 2 ^ 31) × ((x : ℕ) → x < len → getD row x 0 < 2 ^ 31))
+
 module _ (k : Walk) (n : ℕ) where
   -- the row of v has taken in its children from position i on
   pub record Gathering (row store : List ℕ) (v len i : ℕ) : Type 0 where
@@ -28,6 +34,11 @@ module _ (k : Walk) (n : ℕ) where
     pub stores : length store ≡ 37231
     pub cells : (x : ℕ) → x < len → getD row x 0 ≡ tab k n i v x
     pub kept : Kept k n store v i
+
+  -- what take_in leaves
+  abbrev pub Turned : List ℕ → List ℕ → List ℕ → ℕ → ℕ → ℕ → ℕ → Type 0
+  Turned row store msgs v w len i =
+      (row′ store′ : List ℕ) → Taken msgs row store row′ store′ i w len → length row′ ≡ length row → length store′ ≡ length store → Gathering row′ store′ v (len - w) i
 
   -- the code counts down first
   pub fallen : {row store : List ℕ} {v len i : ℕ} → Gathering row store v len i → v + 1 < i → Gathering row store v len (suc (i - 1))
@@ -55,17 +66,7 @@ module _ (k : Walk) (n : ℕ) (s : Shape k n) where
       past j a q true t = absurd (o (ap (λ (u : ℕ). k .par u) (eqb-true i j t) ∙ q))
       past j a q false t = omega (arith, eqb-false i j t)
 
-  -- ---- a child i, whose message is taken in: what take_in asks, and the row afterwards
-  abbrev pub Asked : List ℕ → List ℕ → ℕ → ℕ → ℕ → Type 0
-  Asked msgs row i w len =
-      ((1 ≤ i) × (i < 32) × (w ≤ 80) × (w < len) × (len ≤ w + (80 * (i - 1) + 1)))
-      × (((p : ℕ) → p ≤ w → getD msgs (i * 81 + p) 0 < 2 ^ 31) × ((x : ℕ) → x < len → getD row x 0 < 2 ^ 31))
-
-  abbrev pub Turned : List ℕ → List ℕ → List ℕ → ℕ → ℕ → ℕ → ℕ → Type 0
-  Turned row store msgs v w len i =
-      (row′ store′ : List ℕ) → Taken msgs row store row′ store′ i w len → length row′ ≡ length row → length store′ ≡ length store
-      → Gathering k n row′ store′ v (len - w) i
-
+  -- ---- a child i, whose message is taken in
   module _ {row store msgs : List ℕ} {len i : ℕ} (g : Gathering k n row store (k .par i) len (suc i)) (h : 1 ≤ i) (m : Sent k n msgs (k .par i + 1)) where
     left : len ≡ 1 + (reach k i (k .par i) + k .wide i)
     left = omega (arith, g .count, reach-par k (s .rising) i h)
@@ -123,11 +124,13 @@ module _ (k : Walk) (n : ℕ) (s : Shape k n) where
 
   -- as the code has it: v is the parent, and w how wide the link is
   pub kid-law : {row store : List ℕ} {v w len i : ℕ} (msgs : List ℕ) → Gathering k n row store v len (suc i) → 1 ≤ i → Sent k n msgs (v + 1) → k .par i ≡ v
-      → w ≡ k .wide i → (Small (k .row) → Asked msgs row i w len) × Turned row store msgs v w len i
+      → w ≡ k .wide i → (Small (k .row) → Asked msgs row i w len) × Turned k n row store msgs v w len i
   kid-law {row} {store} {v} {w} {len} {i} msgs g h m e we =
-      subst (λ (u : ℕ). (Small (k .row) → Asked msgs row i u len) × Turned row store msgs v u len i) (sym we)
-      (subst (λ (u : ℕ). Gathering k n row store u len (suc i) → Sent k n msgs (u + 1) → (Small (k .row) → Asked msgs row i (k .wide i) len) × Turned row store msgs u (k .wide i) len i) e
-      (λ g m. (kid-fits g h m, turn-kid g h m)) g m)
+      subst (λ (u : ℕ). (Small (k .row) → Asked msgs row i u len) × Turned k n row store msgs v u len i) (sym we)
+      (subst
+      (λ (u : ℕ).
+      Gathering k n row store u len (suc i) → Sent k n msgs (u + 1)
+      → (Small (k .row) → Asked msgs row i (k .wide i) len) × Turned k n row store msgs u (k .wide i) len i) e (λ g m. (kid-fits g h m, turn-kid g h m)) g m)
 
   -- ---- a member's first row, and its message in the end
   pub start-law : (row store : List ℕ) (v len i : ℕ) → i ≡ n → v < n → len ≡ 1 + reach k n v → length row ≡ 2481 → length store ≡ 37231

@@ -4,7 +4,6 @@ ghost use mathlib.Core.Path.{_≡_};
 ghost use Prim.Native.Nat.{ℕ, _≤_, _<_};
 ghost use lib.IntN.{pos, _-ℤ_};
 ghost use lib.ListN.{length, getD};
-ghost use Rattle.numbers.specs.inner.Held.{unitsIn};
 ghost use Rattle.network.specs.inner.Feeders.{awayAt, Sound};
 ghost use Rattle.engine.specs.inner.Words.{walkOf, topOf, Kept, Settled, Flows};
 use crate::Solution;
@@ -60,7 +59,8 @@ fn sent_of(feeder: Feeder, i: usize, choice: u8) -> Units
     ensures { λ r. ⌜ r .0 ≡ pos choice -ℤ pos (awayAt feeder i) ⌝ }
 {
     let c = Units::of(choice as u16);
-    c.minus(feeder.away[i])
+    let a = feeder.away[i];
+    c.minus(a)
 }
 
 // What the choices make, beside the cell of the best total.

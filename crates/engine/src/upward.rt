@@ -112,7 +112,7 @@ fn put_message(row: &[u32], messages: &mut [u32], v: usize, len: usize)
 }
 
 // One member, whose table is given: its own row, the messages of its children taken in, and its message put in the store.
-pub fn member(
+fn member(
     feeder: Feeder,
     table: &[u8],
     v: usize,

@@ -1,21 +1,21 @@
 -- `solve` meets its contract: the root's message is the best total, and the choices that are read make the nets and what is sent.
 use borrow.Author.Needs.{needs}
-use native.Mathlib.Omega.{arith}
-use mathlib.Core.Path.{ap, _∙_}
-use Prim.Native.Nat.{ℕ}
-use lib.IntN.{pos, _-ℤ_}
-use Rattle.problem.proofs.Table.{tab}
-use Rattle.network.specs.inner.Feeders.{awayAt}
 use Rattle.records.specs.Records.{entries}
 use Rattle.records.specs.Market.{offersOf}
-use Rattle.engine.specs.inner.Words.{walkOf, topOf, ownOf, Settled}
+use Rattle.engine.specs.inner.Words.{walkOf, ownOf, Settled}
+use Rattle.engine.proofs.Passes.{solved}
 use Rattle.engine.proofs.solve.Statement.{statement}
 use Rattle.engine.proofs.solve.Tie as tie
 
 abbrev begun : tie.After-upward → tie.Start
 begun c = c .before .before .before .before .before
 
-settled : (c : tie.After-choose) → Settled (walkOf (begun (c .before .before .before .before .before) .args .feeder) (ownOf (begun (c .before .before .before .before .before) .args .feeder) (offersOf (entries (begun (c .before .before .before .before .before) .args .file .now))))) (begun (c .before .before .before .before .before) .args .feeder .members) (c .choose .result .choice) (c .choose .result .index)
+abbrev Chosen : tie.After-choose → Type 0
+Chosen c =
+    let a = begun (c .before .before .before .before .before) .args in
+    Settled (walkOf (a .feeder) (ownOf (a .feeder) (offersOf (entries (a .file .now))))) (a .feeder .members) (c .choose .result .choice) (c .choose .result .index)
+
+settled : (c : tie.After-choose) → Chosen c
 settled c = c .choose .ensures _ (c .before .before .before .before .before .upward .ensures .kept)
 
 slice-aggregate-upward : tie.Need-slice-aggregate-upward
@@ -43,19 +43,10 @@ settle-requires : tie.Need-settle-requires
 settle-requires c κs = (begun (c .before .before .before .before .before) .pre, settled c .within)
 
 returns : tie.Need-returns
-unfolding tab
 returns c =
     let u = c .before .before .before .before .before .before in
     let st = begun u in
-    let f = st .args .feeder in
-    let t = settled (c .before) in
-    let e = c .settle .ensures in
-    record {
-      best-is = e .0 ∙ u .upward .ensures .sent .sent 0 0 (omega arith) (st .pre .some) (omega arith);
-      nets = λ i l. e .1 .nets i l ∙ ap (λ (x : ℕ). pos (topOf f i) -ℤ pos x) (t .indexed i l);
-      sends = λ i l. e .1 .sends i l ∙ ap (λ (x : ℕ). pos x -ℤ pos (awayAt f i)) (t .choices i l);
-      past = e .1 .past;
-    }
+    solved (st .args .feeder) _ _ _ _ _ _ _ _ (st .pre) (u .upward .ensures) (settled (c .before)) (c .settle .ensures)
 
 pub solve-spec : {M : Type 1} → statement M
 solve-spec =

@@ -1,7 +1,7 @@
 -- `choose` meets its contract. The loop's invariant: the choices before i are read, and the indices are those after them.
 use borrow.Author.Needs.{needs}
 use native.Mathlib.Omega.{arith}
-use mathlib.Core.Path.{_≡_, _∙_}
+use mathlib.Core.Path.{_≡_}
 use Prim.Native.Nat.{ℕ, _+_, _-_, _≤_, _<_}
 use lib.ListN.{getD}
 use Rattle.network.specs.inner.Feeders.{towardAt, awayAt}
@@ -34,11 +34,14 @@ up c =
     (omega (arith, c .wide2 .ensures, s .rising (h .loop .i) (h .loop .inv .0)), omega (arith, s .few, c .before .before .loop-test .taken, h .loop .inv .2))
 
 -- what is read
-reads : (c : tie.After-slot Inv-loop μ-loop)
-    → (getD (c .before .before .before .before .loop .index) (c .before .wide2 .result) 0 ≤ 2480)
-    × (c .slot .result + getD (c .before .before .before .before .loop .index) (c .before .wide2 .result) 0 < 37231)
-    × (getD (begun (c .before .before .before .before) .args .choices .now) (c .slot .result + getD (c .before .before .before .before .loop .index) (c .before .wide2 .result) 0) 0
-    ≤ towardAt (begun (c .before .before .before .before) .args .t1) (c .before .before .before .before .loop .i) + awayAt (begun (c .before .before .before .before) .args .t1) (c .before .before .before .before .loop .i))
+abbrev Reads : tie.After-slot Inv-loop μ-loop → Type 0
+Reads c =
+    let h = c .before .before .before .before in
+    let a = begun h .args in
+    let x = getD (h .loop .index) (c .before .wide2 .result) 0 in
+    (x ≤ 2480) × (c .slot .result + x < 37231) × (getD (a .choices .now) (c .slot .result + x) 0 ≤ towardAt (a .t1) (h .loop .i) + awayAt (a .t1) (h .loop .i))
+
+reads : (c : tie.After-slot Inv-loop μ-loop) → Reads c
 reads c =
     let h = c .before .before .before .before in
     let st = begun h in

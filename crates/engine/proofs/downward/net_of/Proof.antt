@@ -1,11 +1,10 @@
 -- `net_of` meets its contract: the difference of two counts below 10,000 fits 16 bits.
 use borrow.Author.Needs.{needs}
 use native.Mathlib.Omega.{arith}
-use mathlib.Core.Path.{ap, ap₂, _∙_}
-use lib.IntN.{ℤ, pos, _-ℤ_}
-use mir.Syntax.{w16}
+use mathlib.Core.Path.{ap₂, _∙_}
+use lib.IntN.{_-ℤ_}
 use Rattle.engine.proofs.Tops.{top-few}
-use Rattle.engine.proofs.Fill.{less-fits}
+use Rattle.engine.proofs.Counts.{less-fits}
 use Rattle.engine.proofs.downward.net_of.Statement.{statement}
 use Rattle.engine.proofs.downward.net_of.Tie as tie
 

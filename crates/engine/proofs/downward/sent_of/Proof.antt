@@ -3,18 +3,18 @@ use borrow.Author.Needs.{needs}
 use native.Mathlib.Omega.{arith}
 use mathlib.Core.Path.{ap₂, _∙_}
 use lib.IntN.{_-ℤ_}
-use Rattle.engine.proofs.Fill.{less-fits}
+use Rattle.engine.proofs.Counts.{less-fits}
 use Rattle.engine.proofs.downward.sent_of.Statement.{statement}
 use Rattle.engine.proofs.downward.sent_of.Tie as tie
 
 of-requires : tie.Need-of-requires
 of-requires c κs = search needs
 
-mul-minus : tie.Need-mul-minus
-mul-minus c = search needs
+mul-a : tie.Need-mul-a
+mul-a c = search needs
 
-element-copy-out-minus : tie.Need-element-copy-out-minus
-element-copy-out-minus c = search needs
+element-copy-out-a : tie.Need-element-copy-out-a
+element-copy-out-a c = search needs
 
 minus-requires : tie.Need-minus-requires
 minus-requires c κs =
@@ -32,7 +32,7 @@ sent-of-spec =
     tie.close
     (tie.spec
     of-requires
-    mul-minus
-    element-copy-out-minus
+    mul-a
+    element-copy-out-a
     minus-requires
     returns)

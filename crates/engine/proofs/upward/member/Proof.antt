@@ -2,8 +2,8 @@
 -- from position k on.
 use borrow.Author.Needs.{needs}
 use native.Mathlib.Omega.{arith}
-use mathlib.Core.Path.{_≡_, sym, _∙_}
-use Prim.Native.Nat.{ℕ, _<_, _≤_, _+_, _-_}
+use mathlib.Core.Path.{sym, _∙_}
+use Prim.Native.Nat.{ℕ, _-_}
 use Rattle.problem.proofs.Form.{Walk}
 use Rattle.engine.specs.inner.Words.{walkOf, Small, Ready}
 use Rattle.engine.proofs.Shape.{Shape, shape, far}
@@ -35,18 +35,22 @@ gathered : (c : tie.At-loop Inv-loop μ-loop) → Gathering (walk (begun c)) (be
 gathered c = c .loop .inv (own-of (begun c)) (begun c .pre .1 .1 .1)
 
 -- a child of v
-module _ (c : tie.After-width Inv-loop μ-loop) (own : ℕ → ℕ → ℕ) where
-  abbrev head : tie.At-loop Inv-loop μ-loop
-  head = c .before .before .before .before .before
+abbrev Kid : tie.After-width Inv-loop μ-loop → Type 0
+Kid c =
+    let h = c .before .before .before .before .before in
+    let a = begun h .args in
+    (own : ℕ → ℕ → ℕ) → Ready (a .t1) (a .table .now) (a .v) (a .messages .now) (a .choices .now) own
+    → (Small own → Asked (a .messages .now) (h .loop .row) (h .loop .k - 1) (c .width .result) (h .loop .len))
+    × Turned (walkOf (a .t1) own) (a .t1 .members) (h .loop .row) (h .loop .choices) (a .messages .now) (a .v) (c .width .result) (h .loop .len) (h .loop .k - 1)
 
-  kid : (r : Ready (begun head .args .t1) (begun head .args .table .now) (begun head .args .v) (begun head .args .messages .now) (begun head .args .choices .now) own)
-      → (Small own → Asked (walkOf (begun head .args .t1) own) (begun head .args .t1 .members) (shape (begun head .args .t1) own (begun head .pre .0 .0)) (begun head .args .messages .now) (head .loop .row) (head .loop .k - 1) (c .width .result) (head .loop .len))
-      × Turned (walkOf (begun head .args .t1) own) (begun head .args .t1 .members) (shape (begun head .args .t1) own (begun head .pre .0 .0)) (head .loop .row) (head .loop .choices) (begun head .args .messages .now) (begun head .args .v) (c .width .result) (head .loop .len) (head .loop .k - 1)
-  kid r =
-      let st = begun head in
-      let l = c .before .before .before .before .loop-test .taken in
-      kid-law (walkOf (st .args .t1) own) (st .args .t1 .members) (shape (st .args .t1) own (st .pre .0 .0)) (st .args .messages .now) (fallen _ _ (head .loop .inv own r) l) (omega arith) (r .sent)
-      (sym (c .before .before .wide2 .ensures) ∙ c .before .if1 .taken) (c .width .ensures)
+kid : (c : tie.After-width Inv-loop μ-loop) → Kid c
+kid c own r =
+    let h = c .before .before .before .before .before in
+    let st = begun h in
+    let f = st .args .t1 in
+    let l = c .before .before .before .before .loop-test .taken in
+    kid-law (walkOf f own) (f .members) (shape f own (st .pre .0 .0)) (st .args .messages .now) (fallen _ _ (h .loop .inv own r) l) (omega arith) (r .sent)
+    (sym (c .before .before .wide2 .ensures) ∙ c .before .if1 .taken) (c .width .ensures)
 
 row-len-requires : tie.Need-row-len-requires Inv-loop μ-loop
 row-len-requires c κs = search needs

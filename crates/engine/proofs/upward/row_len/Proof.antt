@@ -1,7 +1,7 @@
 -- `row_len` meets its contract. The loop's invariant: the length is that of the row that the positions below k have been joined on to.
 use borrow.Author.Needs.{needs}
 use native.Mathlib.Omega.{arith}
-use mathlib.Core.Path.{_≡_, sym, ap, ap₂, _∙_}
+use mathlib.Core.Path.{_≡_, sym, ap, _∙_}
 use mathlib.Core.Logic.{⊎-elim}
 use Prim.Native.Nat.{ℕ, _<_, _≤_, _+_, _-_}
 use Rattle.problem.proofs.Reach.{reach}

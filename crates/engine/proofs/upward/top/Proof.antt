@@ -3,13 +3,10 @@ use borrow.Author.Needs.{needs}
 use native.Mathlib.Omega.{arith}
 use mathlib.Core.Path.{_≡_, sym, ap, ap₂, _∙_}
 use mathlib.Core.Logic.{⊎-elim}
-use Prim.Native.Nat.{ℕ, _+_, _≤_, _<_, _-_}
-use lib.IntN.{ℤ, pos, _+ℤ_}
-use mir.Syntax.{w16}
-use mir.Val.{SFits}
+use Prim.Native.Nat.{_≤_, _-_}
+use lib.IntN.{pos, _+ℤ_}
 use Rattle.numbers.specs.declared.Units.{Units}
-use Rattle.numbers.proofs.Signs.{up, dn, added}
-use Rattle.numbers.proofs.Complement.{sfits-from}
+use Rattle.engine.proofs.Counts.{plus-fits}
 use Rattle.engine.proofs.Tops.{topTo, top-start, top-kid, top-not, top-most, top-end}
 use Rattle.engine.proofs.upward.top.Statement.{statement}
 use Rattle.engine.proofs.upward.top.Tie as tie
@@ -19,16 +16,6 @@ Inv-loop v feeder n sum₀ k₀ sum k = (1 ≤ k) × (k ≤ n) × (n ≡ feeder 
 
 abbrev μ-loop : tie.MeasureT-loop
 μ-loop v feeder n sum₀ k₀ sum k = n - k
-
--- a sum of small counts fits 16 bits
-fits : {a b : ℕ} (y z : ℤ) → y ≡ pos a → z ≡ pos b → a + b < 32768 → SFits w16 (y +ℤ z)
-fits y z e g l =
-    let s = added y z in
-    let e₁ = ap up e in
-    let e₂ = ap dn e in
-    let g₁ = ap up g in
-    let g₂ = ap dn g in
-    sfits-from w16 (y +ℤ z) (omega arith) (omega arith)
 
 wide-requires : tie.Need-wide-requires Inv-loop μ-loop
 wide-requires c κs = search needs
@@ -67,7 +54,7 @@ plus-requires c κs =
     let s = st .pre .0 in
     let k = top .loop .k in
     let i = top .loop .inv in
-    fits _ _ (i .3) (s .toward k .0) (omega (arith, s .few, s .toward k .1, top-most f s (st .args .v) k (i .0)))
+    plus-fits _ _ (i .3) (s .toward k .0) (omega (arith, s .few, s .toward k .1, top-most f s (st .args .v) k (i .0)))
 
 add-k : tie.Need-add-k Inv-loop μ-loop
 add-k c = search needs
