@@ -7,7 +7,7 @@ use Prim.Native.Nat.{ℕ, zero, suc, _+_, _-_, _*_, _≤_, _<_}
 use native.Mathlib.Omega.{arith}
 use lib.Dec.{eqb, ltb}
 use lib.ListN.{length, getD}
-use lib.IntN.{ℤ, pos, natAbs, negℤ-negℤ}
+use lib.IntN.{ℤ, natAbs, negℤ-negℤ}
 use borrow.Author.Tests.{eq-eqb, ne-eqb, ltb-true, ltb-false, le-ltb}
 use Rattle.numbers.specs.inner.Held.{unitsIn}
 use Rattle.numbers.specs.declared.Units.{Units}

@@ -5,7 +5,7 @@ use Prim.Native.Nat.{ℕ, zero, suc, _+_, _-_, _≤_, _<_}
 use native.Mathlib.Omega.{arith}
 use lib.Dec.{eqb}
 use Rattle.problem.proofs.Cell.{_⊕_}
-use Rattle.problem.proofs.Max.{pick, maxTo, argmax, maxTo-ext, argmax-ext}
+use Rattle.problem.proofs.Max.{pick, argmax, maxTo-ext, argmax-ext}
 use Rattle.problem.proofs.Form.{Walk, step, run, offer, picks}
 use Rattle.problem.proofs.Closed.{indices}
 

@@ -1,6 +1,6 @@
 -- What the engine leaves of a market is its outcome. Assumes nothing.
 use mathlib.Core.Path.{_≡_, refl, sym, ap, ap₂, _∙_, fun-ext, subst}
-use mathlib.Core.List.{List, _∷_, _++_}
+use mathlib.Core.List.{List, _++_}
 use Prim.Native.Nat.{ℕ, zero, suc, _+_, _-_, _*_, _≤_, _<_, _^_}
 use native.Mathlib.Omega.{arith}
 use lib.Dec.{lit<}
@@ -16,12 +16,12 @@ use Rattle.problem.proofs.Answer.{start}
 use Rattle.problem.proofs.Closed.{indices}
 use Rattle.problem.proofs.Prices.{Priced, cellOf}
 use Rattle.problem.proofs.Table.{tab, tab-bound}
-use Rattle.problem.proofs.Flows.{at, as-many, sent-place}
-use Rattle.problem.proofs.Arrange.{parent, member, linkOf, lowerOf, near, steps, one-fewer, arranged}
+use Rattle.problem.proofs.Flows.{as-many, sent-place}
+use Rattle.problem.proofs.Arrange.{parent, member, near, steps, one-fewer, arranged}
 use Rattle.problem.proofs.Cleared.{upOf, downOf, form, choices, flowsOf, sends-at, choices-fit, net-at, clear-none, clear-some}
 use Rattle.problem.proofs.Cleared as C
 use Rattle.network.specs.declared.Feeder.{Feeder}
-use Rattle.network.specs.inner.Feeders.{memberAt, parentAt, towardAt, awayAt}
+use Rattle.network.specs.inner.Feeders.{memberAt, parentAt}
 use Rattle.records.specs.Records.{entries}
 use Rattle.records.specs.Market.{offersOf}
 use Rattle.records.specs.Answer.{answerOf}

@@ -1,2 +1,4 @@
 pub mod Outcome
+pub mod Promise
+pub mod Starred
 pub mod inner

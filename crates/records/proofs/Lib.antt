@@ -1,4 +1,3 @@
 pub mod Entries
 pub mod Allowed
-pub mod Starred
 pub mod Written

@@ -2,5 +2,4 @@ pub mod Records
 pub mod Refusals
 pub mod Market
 pub mod Answer
-pub mod Starred
 pub mod inner

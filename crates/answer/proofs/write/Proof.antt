@@ -1,9 +1,9 @@
 -- `write` meets its contract: the three parts, one after the other.
 use borrow.Author.Needs.{needs}
 use native.Mathlib.Omega.{arith}
-use mathlib.Core.Path.{_≡_, refl, sym, ap, _∙_}
+use mathlib.Core.Path.{refl, ap, _∙_}
 use mathlib.Core.List.{List, _++_}
-use Prim.Native.Nat.{ℕ, _*_, _-_, _≤_}
+use Prim.Native.Nat.{ℕ, _*_, _-_}
 use lib.ListN.{drop, length-take, length-drop}
 use Rattle.network.specs.inner.Feeders.{Sound}
 use Rattle.records.specs.Answer.{each, totalRecord}
