@@ -1,1 +1,4 @@
 pub mod Feeders
+pub mod Sets
+pub mod Parts
+pub mod Walks

@@ -1,7 +1,7 @@
 -- `touched` meets its contract: the second test is made where the first is false. Assumes nothing.
 use borrow.Author.Needs.{needs}
-use Rattle.market.proofs.rings.touched.Statement.{statement}
-use Rattle.market.proofs.rings.touched.Tie as tie
+use Rattle.network.proofs.parts.touched.Statement.{statement}
+use Rattle.network.proofs.parts.touched.Tie as tie
 
 has-requires : tie.Need-has-requires
 has-requires c κs = search needs

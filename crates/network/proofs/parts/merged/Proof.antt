@@ -5,15 +5,15 @@ use Prim.Native.Nat.{_≤_, _-_}
 use native.Mathlib.Omega.{arith}
 use borrow.Author.Needs.{needs}
 use lib.ListN.{length}
-use Rattle.network.proofs.Parts.{Merging, merging-none, merging-step, merging-done}
-use Rattle.market.proofs.rings.merged.Statement.{statement}
-use Rattle.market.proofs.rings.merged.Tie as tie
+use Rattle.network.proofs.Merges.{Merging, merging-none, merging-step, merging-done}
+use Rattle.network.proofs.parts.merged.Statement.{statement}
+use Rattle.network.proofs.parts.merged.Tie as tie
 
 abbrev Inv-loop : tie.InvT-loop
-Inv-loop kept a b m out₀ e₀ out e = (e ≤ kept) × (length out ≡ 31) × Merging out₀ out e a b m
+Inv-loop count a b m out₀ e₀ out e = (e ≤ count) × (length out ≡ 31) × Merging out₀ out e a b m
 
 abbrev μ-loop : tie.MeasureT-loop
-μ-loop kept a b m out₀ e₀ out e = kept - e
+μ-loop count a b m out₀ e₀ out e = count - e
 
 loop-holds : tie.Need-loop-holds Inv-loop μ-loop
 loop-holds c = (search needs, search needs, merging-none _ _ _ _)
@@ -49,7 +49,7 @@ array-write-out-2 : tie.Need-array-write-out-2 Inv-loop μ-loop
 array-write-out-2 c = search needs
 
 returns : tie.Need-returns Inv-loop μ-loop
-returns c = merging-done _ _ (c .before .loop .e) (c .before .before .args .kept) _ _ _ (omega arith) (search needs) (c .before .loop .inv .2)
+returns c = merging-done _ _ (c .before .loop .e) (c .before .before .args .count) _ _ _ (omega arith) (search needs) (c .before .loop .inv .2)
 
 pub merged-spec : {M : Type 1} → statement M
 merged-spec =

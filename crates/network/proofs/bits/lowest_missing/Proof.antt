@@ -1,6 +1,6 @@
 use Rattle.network.proofs.Bit.{lowest-full, lowest-trailing}
-use Rattle.market.proofs.bits.lowest_missing.Statement.{statement}
-use Rattle.market.proofs.bits.lowest_missing.Tie as tie
+use Rattle.network.proofs.bits.lowest_missing.Statement.{statement}
+use Rattle.network.proofs.bits.lowest_missing.Tie as tie
 
 returns : tie.Need-returns
 returns c = lowest-full _ _ (c .before .pre .1) (c .if1 .taken)

@@ -1,7 +1,7 @@
 -- `replaced` meets its contract, by the test whether old holds an end. Assumes nothing.
 use borrow.Author.Needs.{needs}
-use Rattle.market.proofs.rings.replaced.Statement.{statement}
-use Rattle.market.proofs.rings.replaced.Tie as tie
+use Rattle.network.proofs.parts.replaced.Statement.{statement}
+use Rattle.network.proofs.parts.replaced.Tie as tie
 
 touched-requires : tie.Need-touched-requires
 touched-requires c κs = search needs

@@ -1,8 +1,8 @@
+// Sets of members as the bits of a number: a member's bit is its index.
 ghost use mathlib.Core.Path.{_≡_};
-ghost use mathlib.Core.Bool.{true, false};
-ghost use Prim.Native.Nat.{_+_, _<_, _≤_, _^_};
+ghost use Prim.Native.Nat.{_<_, _≤_, _^_};
 ghost use lib.Bits.{bitOr};
-ghost use Rattle.network.proofs.Bit.{bit, holds, Lowest};
+ghost use Rattle.network.specs.inner.Sets.{holds, Lowest};
 
 // The lowest of 0 .. n-1 that is not among the bits of `reached`, or n where all are.
 pub fn lowest_missing(reached: u32, n: u32) -> u32
@@ -16,7 +16,7 @@ pub fn lowest_missing(reached: u32, n: u32) -> u32
     }
 }
 
-pub fn has(m: u32, v: u32) -> bool
+pub fn has(m: u32, v: usize) -> bool
     requires { ⌜ v < 32 ⌝ }
     ensures { λ r. ⌜ r ≡ holds m v ⌝ }
 {
@@ -24,7 +24,7 @@ pub fn has(m: u32, v: u32) -> bool
 }
 
 // The set with v alone.
-pub fn only(v: u32) -> u32
+pub fn only(v: usize) -> u32
     requires { ⌜ v < 32 ⌝ }
     ensures { λ r. ⌜ r ≡ 2 ^ v ⌝ }
 {

@@ -1,16 +1,17 @@
--- For each earlier link the set of the members of its part, and what a new link does to these sets (refusal 9). A set is a
--- number: bit v stands for member v + 1. Assumes nothing.
+-- The sets of the members of each link's part keep who is joined, from link to link. Assumes nothing.
 use mathlib.Core.Path.{_≡_, refl, sym, ap, ap₂, _∙_, subst, subst₂}
 use mathlib.Core.Logic.{_⊎_, inl, inr}
 use mathlib.Core.Bool.{Bool, true, false, cond, _&&_, _||_}
 use mathlib.Core.List.{List, [], _∷_}
 use Prim.Native.Nat.{ℕ, zero, suc, _+_, _^_, _≤_, _<_}
 use native.Mathlib.Nat.{le-refl, not-suc-le-zero}
+use native.Mathlib.Numerals.{add-one}
 use native.Mathlib.Omega.{arith}
 use lib.Dec.{eqb}
 use lib.Bits.{bitOr}
 use lib.ListN.{length, getD, set}
 use lib.Seq.{getD-set-same, getD-set-other}
+use borrow.Author.Count.{below-more}
 use borrow.Author.Tests.{eqb-true, eq-eqb}
 use Rattle.numbers.proofs.Tests.{true-false, or-true, or-left, or-right}
 use Rattle.problem.specs.Problem.{Link, joins, neighbours}
@@ -19,7 +20,12 @@ use Rattle.problem.proofs.Tree.Joined.{same, step}
 use Rattle.problem.proofs.Links.{Ends, joins-ends}
 use Rattle.problem.proofs.Labels.{lab, Lab, lab-cases, lab-a, lab-b, lab-more, lab-joined, open-few}
 use Rattle.problem.proofs.Count.{same?}
-use Rattle.network.proofs.Bit.{holds, holds-or, holds-one}
+use Rattle.network.specs.inner.Sets.{holds}
+use Rattle.network.specs.inner.Parts.{touches, gather, Joins, Merged}
+use Rattle.network.specs.inner.Parts.Joins.{ring, part}
+use Rattle.network.specs.declared.parts.Joining.{Joining}
+use Rattle.network.specs.declared.parts.Joining.the-variants as Joining
+use Rattle.network.proofs.Bit.{holds-or, holds-one}
 
 -- ---- members that are joined have the same label
 
@@ -53,15 +59,6 @@ pub few : (n : ℕ) (ls : List Link) → 1 ≤ n → Within n ls → Ringless ls
 few n ls p w r = omega (arith, few-more n ls [] p w tt r tt)
 
 -- ---- the sets
-
--- the set m holds an end
-abbrev pub touches : ℕ → ℕ → ℕ → Bool
-touches m a b = holds m a || holds m b
-
--- a, b and the members of the sets below e that hold one of them
-unfoldable pub gather : (ℕ → ℕ) → ℕ → ℕ → ℕ → ℕ
-gather ms a b zero = bitOr (2 ^ a) (2 ^ b)
-gather ms a b (suc e) = cond (touches (ms e) a b) (bitOr (gather ms a b e) (ms e)) (gather ms a b e)
 
 -- each of the k sets is a whole part, and every member that is joined to another is in one
 pub record Keeps (ls : List Link) (ms : ℕ → ℕ) (k : ℕ) : Type 0 where
@@ -181,11 +178,6 @@ module _ (ls : List Link) (ms : ℕ → ℕ) (k : ℕ) (K : Keeps ls ms k) where
 
 -- ---- one link more
 
--- a set that holds an end becomes m, and m is the new link's
-pub record Merged (ms ms′ : ℕ → ℕ) (k a b m : ℕ) : Type 0 where
-  pub old : (e : ℕ) → e < k → ms′ e ≡ cond (touches (ms e) a b) m (ms e)
-  pub new : ms′ k ≡ m
-
 module _ (ls : List Link) (l : Link) where
   -- member v was in the part of an end
   abbrev Near : ℕ → Type 0
@@ -285,6 +277,36 @@ module _ (ls : List Link) (l : Link) (a b : ℕ) (low : l .a ≡ suc a) (high : 
 
           kept : (e : ℕ) × (e < k) × (holds (ms e) u ≡ true) → (e : ℕ) × (e < suc k) × (holds (ms′ e) u ≡ true)
           kept c = (c .0, omega (arith, c .1), grown (c .0) (c .1) (c .2) (is (c .0) (omega (arith, c .1))))
+
+-- ---- a search through the sets: m is what those below e gather of the ends, and none of them holds both
+pub record Searched (ms : List ℕ) (a b m e : ℕ) : Type 0 where
+  pub gathers : m ≡ gather (λ i. getD ms i 0) a b e
+  pub clear : (i : ℕ) → i < e → (holds (getD ms i 0) a && holds (getD ms i 0) b) ≡ false
+
+pub searched-none : (ms : List ℕ) (a b x y m : ℕ) → x ≡ 2 ^ a → y ≡ 2 ^ b → m ≡ bitOr x y → Searched ms a b m 0
+unfolding gather
+searched-none ms a b x y m p q e = record { gathers = e ∙ ap₂ bitOr p q; clear = λ i l. absurd (not-suc-le-zero l) }
+
+pub searched-more : (ms : List ℕ) (a b m m′ e : ℕ) → (holds (getD ms e 0) a && holds (getD ms e 0) b) ≡ false
+    → m′ ≡ cond (touches (getD ms e 0) a b) (bitOr m (getD ms e 0)) m → Searched ms a b m e → Searched ms a b m′ (e + 1)
+unfolding gather
+searched-more ms a b m m′ e f q S = record {
+  gathers = q ∙ ap (λ (x : ℕ). cond (touches (getD ms e 0) a b) (bitOr x (getD ms e 0)) x) (S .gathers) ∙ ap (gather (λ i. getD ms i 0) a b) (sym (add-one e));
+  clear = below-more _ e (S .clear) f;
+}
+
+pub searched-all : (ms : List ℕ) (a b m e k : ℕ) → e ≡ k → Searched ms a b m e → Joins (λ i. getD ms i 0) k a b (Joining.Part m)
+searched-all ms a b m e k q S = part m (λ i l. S .clear i (omega arith)) (S .gathers ∙ ap (gather (λ i. getD ms i 0) a b) q)
+
+-- what an answer says
+module _ (ms : ℕ → ℕ) (k a b : ℕ) where
+  pub part-is : (m : ℕ) {r : Joining} → Joins ms k a b r → r ≡ Joining.Part m → ((e : ℕ) → e < k → (holds (ms e) a && holds (ms e) b) ≡ false) × (m ≡ gather ms a b k)
+  part-is m (ring e l h) q = let z : _≡_ {A = ℕ} 0 1 = cc in absurd (omega arith)
+  part-is m (part x c e) q = let s : x ≡ m = cc in (c, sym s ∙ e)
+
+  pub ring-is : {r : Joining} → Joins ms k a b r → r ≡ Joining.Ring → (e : ℕ) × (e < k) × ((holds (ms e) a && holds (ms e) b) ≡ true)
+  ring-is (ring e l h) q = (e, l, h)
+  ring-is (part m c e) q = let z : _≡_ {A = ℕ} 0 1 = cc in absurd (omega arith)
 
 -- ---- a pass over the sets: those below e are done, the others as they were
 pub record Merging (o₀ o : List ℕ) (e a b m : ℕ) : Type 0 where

@@ -1,7 +1,7 @@
--- `both` meets its contract: the second test is made where the first is true. Assumes nothing.
+-- `holds_both` meets its contract: the second test is made where the first is true. Assumes nothing.
 use borrow.Author.Needs.{needs}
-use Rattle.market.proofs.rings.both.Statement.{statement}
-use Rattle.market.proofs.rings.both.Tie as tie
+use Rattle.network.proofs.parts.holds_both.Statement.{statement}
+use Rattle.network.proofs.parts.holds_both.Tie as tie
 
 has-requires : tie.Need-has-requires
 has-requires c κs = search needs
@@ -15,5 +15,5 @@ returns c = rw (← c .before .before .has .ensures, c .before .if1 .taken) (c .
 returns-2 : tie.Need-returns-2
 returns-2 c = rw (← c .before .has .ensures, c .if1 .left)
 
-pub both-spec : {M : Type 1} → statement M
-both-spec = tie.close (tie.spec has-requires has-requires-2 returns returns-2)
+pub holds-both-spec : {M : Type 1} → statement M
+holds-both-spec = tie.close (tie.spec has-requires has-requires-2 returns returns-2)

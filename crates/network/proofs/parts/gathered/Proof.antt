@@ -1,7 +1,7 @@
 -- `gathered` meets its contract, by the test whether old holds an end. Assumes nothing.
 use borrow.Author.Needs.{needs}
-use Rattle.market.proofs.rings.gathered.Statement.{statement}
-use Rattle.market.proofs.rings.gathered.Tie as tie
+use Rattle.network.proofs.parts.gathered.Statement.{statement}
+use Rattle.network.proofs.parts.gathered.Tie as tie
 
 touched-requires : tie.Need-touched-requires
 touched-requires c κs = search needs

@@ -1,8 +1,11 @@
 use native.Mathlib.Omega.{arith}
 use borrow.Author.Needs.{needs}
 use lib.Pow.{pow-lt}
-use Rattle.market.proofs.bits.only.Statement.{statement}
-use Rattle.market.proofs.bits.only.Tie as tie
+use Rattle.network.proofs.bits.only.Statement.{statement}
+use Rattle.network.proofs.bits.only.Tie as tie
+
+cast-result : tie.Need-cast-result
+cast-result c = search needs
 
 shl-result : tie.Need-shl-result
 shl-result c = search needs
@@ -11,4 +14,4 @@ returns : tie.Need-returns
 returns c = omega (arith, pow-lt (c .pre))
 
 pub only-spec : {M : Type 1} → statement M
-only-spec = tie.close (tie.spec shl-result returns)
+only-spec = tie.close (tie.spec cast-result shl-result returns)

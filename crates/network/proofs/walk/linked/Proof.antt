@@ -1,8 +1,8 @@
 -- `linked` meets its contract. Assumes nothing.
 use Rattle.network.proofs.Near.{add-is}
 use borrow.Author.Needs.{needs}
-use Rattle.market.proofs.order.linked.Statement.{statement}
-use Rattle.market.proofs.order.linked.Tie as tie
+use Rattle.network.proofs.walk.linked.Statement.{statement}
+use Rattle.network.proofs.walk.linked.Tie as tie
 
 mul-join : tie.Need-mul-join
 mul-join c = search needs
