@@ -5,7 +5,7 @@ use mathlib.Core.Bool.{Bool, true, false, cond, _&&_}
 use mathlib.Core.List.{List, [], _∷_}
 use mathlib.Core.Logic.{⊎-elim}
 use mathlib.Core.Option.{Option, none, some}
-use Prim.Native.Nat.{ℕ, suc, _+_, _-_, _<_, _≤_}
+use Prim.Native.Nat.{ℕ, zero, suc, _+_, _-_, _/_, _<_, _≤_}
 use native.Mathlib.Omega.{arith}
 use native.Mathlib.Numerals.{add-one}
 use lib.Dec.{leb, ltb, eqb}
@@ -25,7 +25,7 @@ use Rattle.numbers.proofs.Tests.{bool-cases, and-true, within-true}
 use Rattle.problem.specs.Problem.{Link, Offer}
 use Rattle.records.specs.declared.Reading.{Reading}
 use Rattle.records.specs.declared.Reading.the-variants as Reading
-use Rattle.records.specs.Records.{Entry, byte, two, four, linkOf, offerOf, entryAt, entriesFrom}
+use Rattle.records.specs.Records.{Entry, byte, two, four, linkOf, offerOf, entryAt, entriesFrom, entries}
 use Rattle.records.specs.Records.Entry.{link, offer, fault}
 use Rattle.records.specs.Refusals.{Refusal, refusal, _otherwise_, placeIf, fileLimit, tooLong, faulty, unsound}
 use Rattle.records.specs.inner.Cases.{readingOf}
@@ -129,40 +129,68 @@ Fits (link l) = LinkFits l
 Fits (offer o) = OfferFits o
 Fits (fault k) = (3 ≤ k) × (k ≤ 4)
 
-either : (t : Bool) (x y : Entry) → (t ≡ true → Fits x) → (t ≡ false → Fits y) → Fits (cond t x y)
-either t x y f g = bool-cases t (λ b. Fits (cond b x y)) f g
+-- k is the record's member, if the record is an offer
+abbrev pub MemberIs : ℕ → Entry → Type 0
+MemberIs k (link l) = Unit {0}
+MemberIs k (offer o) = o .member ≡ k
+MemberIs k (fault n) = Unit {0}
 
-link-fits : (a b z c y x : ℕ) → Fits (linkOf a b z c y x)
+-- what is known of a record whose byte 1 is k
+pub record Known (k : ℕ) (e : Entry) : Type 0 where
+  pub fits : Fits e
+  pub member-is : MemberIs k e
+
+either : (k : ℕ) (t : Bool) (x y : Entry) → (t ≡ true → Known k x) → (t ≡ false → Known k y) → Known k (cond t x y)
+either k t x y f g = bool-cases t (λ b. Known k (cond b x y)) f g
+
+a-fault : (k n : ℕ) → 3 ≤ n → n ≤ 4 → Known k (fault n)
+a-fault k n g h = record { fits = (g, h); member-is = tt }
+
+link-known : (a b z c y x : ℕ) → Known a (linkOf a b z c y x)
 unfolding linkOf
-link-fits a b z c y x =
-    either (leb 1 a && ltb a b && leb b 32 && eqb z 0 && leb c 40 && eqb y 0 && eqb x 0) (link (record { a = a; b = b; capacity = c })) (fault 4)
+link-known a b z c y x =
+    either a (leb 1 a && ltb a b && leb b 32 && eqb z 0 && leb c 40 && eqb y 0 && eqb x 0) (link (record { a = a; b = b; capacity = c })) (fault 4)
     (λ e.
     let e5 = and-true (leb 1 a && ltb a b && leb b 32 && eqb z 0 && leb c 40) (eqb y 0) (and-true (leb 1 a && ltb a b && leb b 32 && eqb z 0 && leb c 40 && eqb y 0) (eqb x 0) e .0) in
     let e4 = and-true (leb 1 a && ltb a b && leb b 32 && eqb z 0) (leb c 40) (e5 .0) in
     let e2 = and-true (leb 1 a && ltb a b) (leb b 32) (and-true (leb 1 a && ltb a b && leb b 32) (eqb z 0) (e4 .0) .0) in
     let e1 = and-true (leb 1 a) (ltb a b) (e2 .0) in
-    record { low = leb-true 1 a (e1 .0); below = ltb-true a b (e1 .1); high = leb-true b 32 (e2 .1); small = leb-true c 40 (e4 .1) })
-    (λ e. (omega arith, omega arith))
+    record { fits = record { low = leb-true 1 a (e1 .0); below = ltb-true a b (e1 .1); high = leb-true b 32 (e2 .1); small = leb-true c 40 (e4 .1) }; member-is = tt })
+    (λ e. a-fault a 4 (omega arith) (omega arith))
 
-offer-fits : (j : ℕ) (u p : ℤ) → Fits (offerOf j u p)
+offer-known : (j : ℕ) (u p : ℤ) → Known j (offerOf j u p)
 unfolding offerOf
-offer-fits j u p =
-    either (leb 1 j && leb j 32 && within (negℤ (pos 2000)) (pos 2000) u && within (negℤ (pos 1000000)) (pos 1000000) p) (offer (record { member = j; units = u; price = p })) (fault 4)
+offer-known j u p =
+    either j (leb 1 j && leb j 32 && within (negℤ (pos 2000)) (pos 2000) u && within (negℤ (pos 1000000)) (pos 1000000) p) (offer (record { member = j; units = u; price = p })) (fault 4)
     (λ e.
     let e3 = and-true (leb 1 j && leb j 32 && within (negℤ (pos 2000)) (pos 2000) u) (within (negℤ (pos 1000000)) (pos 1000000) p) e in
     let e2 = and-true (leb 1 j && leb j 32) (within (negℤ (pos 2000)) (pos 2000) u) (e3 .0) in
     let e1 = and-true (leb 1 j) (leb j 32) (e2 .0) in
     let us = within-true (negℤ (pos 2000)) (pos 2000) u (e2 .1) in
     let ps = within-true (negℤ (pos 1000000)) (pos 1000000) p (e3 .1) in
-    record { low = leb-true 1 j (e1 .0); high = leb-true j 32 (e1 .1); units-from = us .0; units-to = us .1; price-from = ps .0; price-to = ps .1 })
-    (λ e. (omega arith, omega arith))
+    record { fits = record { low = leb-true 1 j (e1 .0); high = leb-true j 32 (e1 .1); units-from = us .0; units-to = us .1; price-from = ps .0; price-to = ps .1 }; member-is = refl })
+    (λ e. a-fault j 4 (omega arith) (omega arith))
+
+pub entry-known : (f : List ℕ) (i : ℕ) → Known (byte f i 1) (entryAt f i)
+unfolding entryAt
+entry-known f i =
+    either (byte f i 1) (eqb (byte f i 0) 1) _ _
+    (λ e. link-known (byte f i 1) (byte f i 2) (byte f i 3) (two f i 4) (byte f i 6) (byte f i 7))
+    (λ e. either (byte f i 1) (eqb (byte f i 0) 2) _ _ (λ d. offer-known (byte f i 1) (toZ w16 (two f i 2)) (toZ w32 (four f i 4))) (λ d. a-fault (byte f i 1) 3 (omega arith) (omega arith)))
 
 pub entry-fits : (f : List ℕ) (i : ℕ) → Fits (entryAt f i)
-unfolding entryAt
-entry-fits f i =
-    either (eqb (byte f i 0) 1) _ _
-    (λ e. link-fits (byte f i 1) (byte f i 2) (byte f i 3) (two f i 4) (byte f i 6) (byte f i 7))
-    (λ e. either (eqb (byte f i 0) 2) _ _ (λ d. offer-fits (byte f i 1) (toZ w16 (two f i 2)) (toZ w32 (four f i 4))) (λ d. (omega arith, omega arith)))
+entry-fits f i = entry-known f i .fits
+
+-- ---- a law of any file's records, by one record before others
+module _ (P : List Entry → Type 0) (none-yet : P []) (one-more : (e : Entry) (es : List Entry) → Fits e → P es → P (e ∷ es)) where
+  from : (f : List ℕ) (i n : ℕ) → P (entriesFrom f i n)
+  unfolding entriesFrom
+  from f i zero = none-yet
+  from f i (suc n) = one-more (entryAt f i) (entriesFrom f (suc i) n) (entry-fits f i) (from f (suc i) n)
+
+  pub by-record : (f : List ℕ) → P (entries f)
+  unfolding entries
+  by-record f = from f 0 (length f / 8)
 
 -- ---- the first faulty record
 faulty-on : (i : ℕ) (e : Entry) (es : List Entry) → ((k : ℕ) → e ≡ fault k → ⊥) → faulty i (e ∷ es) ≡ faulty (i + 1) es
@@ -205,10 +233,10 @@ unfolding refusal placeIf
 test-fails k true p e = let z : _≡_ {A = ℕ} 0 1 = cc (e) in absurd (omega arith)
 test-fails k false p e = refl
 
-pub short-file : (f : List ℕ) → refusal 1 (tooLong f) ≡ none → length f ≤ 16632
+pub short-file : (f : List ℕ) → refusal 1 (tooLong f) ≡ none → length f ≤ fileLimit
 unfolding tooLong
 short-file f e = ltb-false fileLimit (length f) (test-fails 1 (ltb fileLimit (length f)) 0 e)
 
-pub sound-short : (f : List ℕ) → unsound f ≡ none → length f ≤ 16632
+pub sound-short : (f : List ℕ) → unsound f ≡ none → length f ≤ fileLimit
 unfolding unsound
 sound-short f e = short-file f (both-none (refusal 1 (tooLong f)) _ e .0)
