@@ -11,3 +11,4 @@ pub mod Arrays
 pub mod Verdicts
 pub mod Sound
 pub mod Allowed
+pub mod Laid
