@@ -1,7 +1,7 @@
 // What a file's records say of its members and offers: one pass counts them, and refusals 5 to 7 are read from the counts. A
 // record that is at fault counts for nothing here.
 ghost use mathlib.Core.Path.{_≡_};
-ghost use Prim.Native.Nat.{ℕ, suc, _+_, _*_, _<_, _≤_, max};
+ghost use Prim.Native.Nat.{ℕ, _+_, _*_, _<_, _≤_, max};
 ghost use lib.ListN.{length, getD};
 ghost use Rattle.records.specs.Records.{entryAt, entries};
 ghost use Rattle.records.specs.Refusals.{fileLimit};
@@ -9,7 +9,7 @@ ghost use Rattle.market.specs.Refusals.{lowestMember};
 ghost use Rattle.market.specs.inner.Cases.{placeOf};
 ghost use Rattle.market.specs.inner.Tallies.{Offered, Counts, Tallied, outside};
 use crate::Place;
-use crate::place_of;
+use crate::member_place;
 use numbers::Member;
 use records::Reading;
 
@@ -98,10 +98,10 @@ pub fn lowest_outside(by: [u16; 32], n: Member, least: u16, most: u16) -> Place
     while j < last {
         let count = by[j];
         if count < least {
-            return Place::At(place_of(j));
+            return Place::At(member_place(j));
         }
         if most < count {
-            return Place::At(place_of(j));
+            return Place::At(member_place(j));
         }
         j += 1;
     }

@@ -15,7 +15,7 @@ use crate::Checked;
 use crate::links::Links;
 use crate::links::capacity;
 use crate::links::neighbours;
-use crate::place_of;
+use crate::member_place;
 use crate::refused;
 use network::Feeder;
 use network::bits::lowest_missing;
@@ -49,7 +49,7 @@ pub fn ten(links: Links, n: Member) -> Checked
     let walked = walk(neighbours(links));
     let missing = lowest_missing(walked.reached, size);
     if missing < size {
-        return refused(10, place_of(missing as usize));
+        return refused(10, member_place(missing as usize));
     }
     let member = walked.member;
     let parent = walked.parent;

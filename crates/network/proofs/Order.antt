@@ -10,7 +10,7 @@ use native.Mathlib.Omega.{arith}
 use lib.ListN.{length, getD, set}
 use lib.Seq.{getD-set-same, getD-set-other}
 use lib.Dec.{eqb, ltb, lit<}
-use lib.Bits.{bitAnd, bitOr, and-le-r, or-lt}
+use lib.Bits.{bitOr, and-le-r, or-lt}
 use lib.Pow.{ones-sub-lt, pow-lt}
 use lib.Count.{trailingZeros}
 use borrow.Author.Tests.{eq-eqb, ne-eqb, ltb-true, lt-ltb}

@@ -1,6 +1,5 @@
 -- `five` meets its contract. Assumes nothing.
-use mathlib.Core.Path.{_≡_, sym, ap, _∙_}
-use Prim.Native.Nat.{_≤_}
+use mathlib.Core.Path.{ap, _∙_}
 use Rattle.market.specs.inner.Feeders.{checked}
 use Rattle.market.proofs.Verdicts.{decided, left-over, no-offers, some-offers, member-of-offer}
 use borrow.Author.Needs.{needs}

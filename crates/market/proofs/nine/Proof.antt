@@ -1,5 +1,5 @@
 -- `nine` meets its contract. Assumes nothing.
-use mathlib.Core.Path.{_≡_, sym, ap, _∙_, subst, subst₂}
+use mathlib.Core.Path.{sym, ap, _∙_, subst, subst₂}
 use mathlib.Core.List.{[]}
 use Rattle.problem.proofs.Tree.{Within, Open}
 use Rattle.market.specs.inner.Feeders.{checked}

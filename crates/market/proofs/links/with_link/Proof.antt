@@ -1,5 +1,5 @@
 -- `with_link` meets its contract. Assumes nothing.
-use mathlib.Core.Path.{_≡_, refl, sym, _∙_}
+use mathlib.Core.Path.{refl, sym, _∙_}
 use Prim.Native.Nat.{_<_}
 use lib.ListN.{length, length-map}
 use Rattle.market.proofs.Kept.{kept-more, fair-more}

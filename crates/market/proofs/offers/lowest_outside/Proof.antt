@@ -30,23 +30,23 @@ mul-count c = search needs
 array-read-count : tie.Need-array-read-count Inv-loop μ-loop
 array-read-count c = search needs
 
-place-of-requires : tie.Need-place-of-requires Inv-loop μ-loop
-place-of-requires c κs = omega (arith, c .before .before .loop .inv .0)
+member-place-requires : tie.Need-member-place-requires Inv-loop μ-loop
+member-place-requires c κs = omega (arith, c .before .before .loop .inv .0)
 
 returns : tie.Need-returns Inv-loop μ-loop
 unfolding placeOf
 returns c =
     let i = c .before .before in
-    ap Place.At (c .place-of .ensures) ∙ sym (ap placeOf (member-hit _ _ _ (i .before .loop .inv .1) (i .loop-test .taken) (too-few _ _ _ _ (c .before .if1 .taken))))
+    ap Place.At (c .member-place .ensures) ∙ sym (ap placeOf (member-hit _ _ _ (i .before .loop .inv .1) (i .loop-test .taken) (too-few _ _ _ _ (c .before .if1 .taken))))
 
-place-of-requires-2 : tie.Need-place-of-requires-2 Inv-loop μ-loop
-place-of-requires-2 c κs = omega (arith, c .before .before .before .loop .inv .0)
+member-place-requires-2 : tie.Need-member-place-requires-2 Inv-loop μ-loop
+member-place-requires-2 c κs = omega (arith, c .before .before .before .loop .inv .0)
 
 returns-2 : tie.Need-returns-2 Inv-loop μ-loop
 unfolding placeOf
 returns-2 c =
     let i = c .before .before .before in
-    ap Place.At (c .place-of2 .ensures) ∙ sym (ap placeOf (member-hit _ _ _ (i .before .loop .inv .1) (i .loop-test .taken) (too-high _ _ _ _ (c .before .before .if1 .left) (c .before .if2 .taken))))
+    ap Place.At (c .member-place2 .ensures) ∙ sym (ap placeOf (member-hit _ _ _ (i .before .loop .inv .1) (i .loop-test .taken) (too-high _ _ _ _ (c .before .before .if1 .left) (c .before .if2 .taken))))
 
 add-j : tie.Need-add-j Inv-loop μ-loop
 add-j c = search needs
@@ -67,4 +67,4 @@ returns-3 c = sym (ap placeOf (member-none _ _ _ (c .before .loop .inv .1) (c .l
 pub lowest-outside-spec : {M : Type 1} → statement M
 lowest-outside-spec =
     tie.close
-    (tie.spec Inv-loop μ-loop cast-last loop-holds mul-count array-read-count place-of-requires returns place-of-requires-2 returns-2 add-j loop-less loop-again returns-3)
+    (tie.spec Inv-loop μ-loop cast-last loop-holds mul-count array-read-count member-place-requires returns member-place-requires-2 returns-2 add-j loop-less loop-again returns-3)

@@ -1,14 +1,11 @@
 -- `read_links` meets its contract. The loop's invariant: the sets and the store keep the links before record i, and none of these closes
 -- a ring. The measure is the number of records left. Assumes nothing.
-use mathlib.Core.Path.{_≡_, refl, sym, ap, _∙_}
-use mathlib.Core.Bool.{false, _&&_}
-use Prim.Native.Nat.{ℕ, _≤_, _<_, _-_, _/_}
-use lib.ListN.{length, getD}
+use mathlib.Core.Path.{_≡_, refl, sym, ap}
+use Prim.Native.Nat.{_≤_, _<_, _-_, _/_}
+use lib.ListN.{length}
 use Rattle.records.specs.Refusals.{fileLimit}
-use Rattle.network.specs.inner.Sets.{holds}
-use Rattle.network.specs.inner.Parts.{gather}
 use Rattle.network.proofs.Merges.{part-is, ring-is}
-use Rattle.market.specs.inner.Cases.{nowhere, placeOf}
+use Rattle.market.specs.inner.Cases.{placeOf}
 use Rattle.market.specs.inner.Lines.{LineFits}
 use Rattle.market.specs.declared.Place.the-variants as Place
 use Rattle.market.proofs.Scan.{Pass, pass-start, pass-end, pass-skip, line-fits, ends-in, pass-hit, room, pass-link}

@@ -2,7 +2,6 @@
 -- nothing.
 use mathlib.Core.Path.{_≡_, sym, _∙_, ap}
 use mathlib.Core.Option.{none}
-use Prim.Native.Nat.{_≤_}
 use lib.ListN.{length-map}
 use Rattle.problem.proofs.Tree.{Tree}
 use Rattle.market.specs.Refusals.{apart}
@@ -40,11 +39,11 @@ lowest-missing-requires c κs =
     let s = c .before .before .pre in
     (s .2, mask-small _ (kept (c .before .before .args .links)) (s .1) (s .2) (s .3) _ (c .walk .result .member) (c .walk .result .parent) _ _ (c .before .neighbours .ensures) (c .walk .ensures .0))
 
-cast-place-of : tie.Need-cast-place-of
-cast-place-of c = search needs
+cast-member-place : tie.Need-cast-member-place
+cast-member-place c = search needs
 
-place-of-requires : tie.Need-place-of-requires
-place-of-requires c κs = omega (arith, c .before .before .before .before .pre .2)
+member-place-requires : tie.Need-member-place-requires
+member-place-requires c κs = omega (arith, c .before .before .before .before .pre .2)
 
 refused-requires : tie.Need-refused-requires
 refused-requires c κs = search needs
@@ -54,7 +53,7 @@ returns c =
     let w = c .before .before .before .before in
     let s = w .before .before .pre in
     c .refused .ensures _
-    ∙ ap (checked _) (refused-is 10 _ _ _ (c .before .place-of .ensures)
+    ∙ ap (checked _) (refused-is 10 _ _ _ (c .before .member-place .ensures)
     (apart-some _ _ (s .1) (s .2) (s .3) _ (w .walk .result .member) (w .walk .result .parent) _ _ (w .before .neighbours .ensures) (w .walk .ensures .0) _
     (c .before .before .before .lowest-missing .ensures) (c .before .before .if1 .taken)))
 
@@ -79,4 +78,4 @@ returns-2 c =
 pub ten-spec : {M : Type 1} → statement M
 ten-spec =
     tie.close
-    (tie.spec cast-size neighbours-requires walk-requires lowest-missing-requires cast-place-of place-of-requires refused-requires returns cast-carried carried-requires returns-2)
+    (tie.spec cast-size neighbours-requires walk-requires lowest-missing-requires cast-member-place member-place-requires refused-requires returns cast-carried carried-requires returns-2)

@@ -1,9 +1,6 @@
 -- `go_on` meets its contract: position by position, from the latest. Assumes nothing.
 use mathlib.Core.Path.{_≡_, refl}
-use Prim.Native.Nat.{_≤_, _<_, _-_}
-use native.Mathlib.Nat.{lt-of-le-of-lt}
-use lib.Bits.{and-le-r}
-use lib.Pow.{ones-sub-lt}
+use Prim.Native.Nat.{_≤_, _-_}
 use lib.Count.{trailing-le}
 use Rattle.numbers.specs.inner.Held.{memberIn}
 use Rattle.network.specs.inner.Walks.{onMask}
