@@ -1,8 +1,8 @@
 -- A pass over the records for the first that passes a test, and over the members for the lowest, turn by turn, in the code's
 -- terms. Assumes nothing.
-use mathlib.Core.Path.{_≡_, sym, _∙_}
+use mathlib.Core.Path.{_≡_, refl, sym, ap, ap₂, _∙_}
 use mathlib.Core.Logic.{_⊎_, inl, inr}
-use mathlib.Core.Bool.{Bool, true, false}
+use mathlib.Core.Bool.{Bool, true, false, cond}
 use mathlib.Core.List.{List, [], _∷_}
 use mathlib.Core.Option.{Option, none, some}
 use Prim.Native.Nat.{ℕ, zero, suc, _+_, _-_, _/_, _≤_, _<_}
@@ -71,3 +71,15 @@ module _ (p : ℕ → Bool) where
           let c : false ≡ true = sym (h _ (omega arith)) ∙ lowest-hit (λ k. p (suc k)) n b in
           let z : _≡_ {A = ℕ} 0 1 = cc in
           absurd (omega arith)
+
+-- ---- two tests that agree on the members
+
+lowest-same : (p q : ℕ → Bool) (n : ℕ) → ((k : ℕ) → k < n → p k ≡ q k) → lowest p n ≡ lowest q n
+unfolding lowest
+lowest-same p q zero h = refl
+lowest-same p q (suc n) h =
+    ap₂ (λ (b : Bool) (k : ℕ). cond b zero (suc k)) (h 0 (omega arith)) (lowest-same (λ k. p (suc k)) (λ k. q (suc k)) n (λ k l. h (suc k) (omega arith)))
+
+pub members-same : (p q : ℕ → Bool) (n : ℕ) → ((k : ℕ) → k < n → p (suc k) ≡ q (suc k)) → lowestMember p n ≡ lowestMember q n
+unfolding lowestMember
+members-same p q n h = ap (λ (k : ℕ). placeIf (ltb k n) (suc k)) (lowest-same (λ k. p (suc k)) (λ k. q (suc k)) n h)

@@ -10,7 +10,8 @@ use Rattle.records.specs.Refusals.{Refusal, refusal, unsound}
 use Rattle.records.specs.Market.{marketOf}
 use Rattle.records.proofs.Entries.{both-none}
 use Rattle.market.specs.Refusals.{firstRecord, noOffer, without, tooMany, closes, apart, faultOf}
-use Rattle.market.proofs.Checked.{some-member}
+use Rattle.market.proofs.Verdicts.{some-member}
+use Rattle.market.proofs.LinkRecords.{links-within}
 use Rattle.market.proofs.Ringless.{ringless}
 use Rattle.market.proofs.Trees.{tree-of}
 
@@ -46,4 +47,5 @@ passed f e =
     }
 
 pub sound-tree : (f : List ℕ) → faultOf f ≡ none → Tree (marketOf f)
-sound-tree f e = let p = passed f e in tree-of f (some-member f (p .offers)) (ringless f (p .ringless)) (p .whole)
+unfolding marketOf
+sound-tree f e = let p = passed f e in tree-of (marketOf f) (some-member f (p .offers)) (links-within f) (ringless f (p .ringless)) (p .whole)

@@ -1,136 +1,167 @@
--- The offers among a file's records: a pass over the file, turn by turn. Assumes nothing.
-use mathlib.Core.Path.{_≡_, refl, sym, ap, _∙_}
-use mathlib.Core.Bool.{Bool, true, false, cond}
+-- The tally of a file's members and offers, record by record, and the lowest member whose count is outside. Assumes nothing.
+use mathlib.Core.Path.{_≡_, refl, sym, ap, _∙_, subst}
+use mathlib.Core.Bool.{Bool, true, false, cond, _||_}
 use mathlib.Core.List.{List, [], _∷_}
 use mathlib.Core.Logic.{_⊎_, inl, inr}
-use Prim.Native.Nat.{ℕ, suc, _+_, _-_, _/_, _≤_, _<_}
+use Prim.Native.Nat.{ℕ, zero, suc, _+_, _-_, _/_, _≤_, _<_, max, zero-le}
 use native.Mathlib.Nat.{sub-zero}
 use native.Mathlib.Omega.{arith}
-use lib.Dec.{eqb}
-use lib.ListN.{length, getD, set, length-set, replicate, getD-replicate}
+use lib.Dec.{eqb, ltb}
+use lib.ListN.{length, getD, set, replicate, getD-replicate}
 use lib.Seq.{getD-set-same, getD-set-other}
-use types.Run.{OneOf}
-use denote.Enum.Declared.{tagOf}
-use borrow.Author.Tests.{ne-eqb}
+use borrow.Author.Tests.{ne-eqb, lt-ltb, le-ltb}
 use Rattle.numbers.specs.declared.Member.{Member}
 use Rattle.numbers.specs.declared.Units.{Units}
 use Rattle.numbers.specs.declared.Price.{Price}
-use Rattle.problem.specs.Problem.{Link, Offer}
+use Rattle.numbers.specs.inner.Held.{member}
 use Rattle.problem.proofs.Count.{same?}
-use Rattle.records.specs.declared.Reading.{Reading}
-use Rattle.records.specs.declared.Reading.the-variants as Reading
 use Rattle.records.specs.Records.{Entry, entryAt, entriesFrom, entries}
 use Rattle.records.specs.Records.Entry.{link, offer, fault}
+use Rattle.records.specs.Market.{membersOf, offersOf, marketOf}
+use Rattle.records.specs.declared.Reading.the-variants as Reading
 use Rattle.records.specs.inner.Cases.{readingOf}
-use Rattle.records.specs.Market.{offersOf}
-use Rattle.records.proofs.Reading.{the-type}
-use Rattle.records.proofs.Entries.{rest, ended, offer-is, not-offer, Fits, entry-fits}
-use Rattle.market.specs.Refusals.{offersBy}
+use Rattle.records.proofs.Entries.{rest, ended, link-is, offer-is, fault-is, Fits, entry-fits}
+use Rattle.market.specs.Refusals.{lowestMember, offersBy, without, tooMany}
+use Rattle.market.specs.declared.offers.Tally.{Tally}
+use Rattle.market.specs.inner.Tallies.{Offered, Counts, Tallied, outside}
+use Rattle.market.proofs.Passes.{members-same}
+use Rattle.market.proofs.Top.{members-few, members-apart}
 
--- the offer that a reading is
-abbrev pub theOffer : Member → Units → Price → Offer
-theOffer m u p = record { member = m .0; units = u .0; price = p .0 }
+-- one more for member m
+pub added : (by : List ℕ) (m i j : ℕ) → 1 ≤ m → m ≤ length by → i ≡ m - 1 → getD (set by i (getD by i 0 + 1)) j 0 ≡ getD by j 0 + cond (eqb (suc j) m) 1 0
+added by m i j low high is = go (same? (suc j) m)
+  where
+    go : ((suc j ≡ m) × (eqb (suc j) m ≡ true)) ⊎ ((suc j ≡ m → ⊥) × (eqb (suc j) m ≡ false)) → getD (set by i (getD by i 0 + 1)) j 0 ≡ getD by j 0 + cond (eqb (suc j) m) 1 0
+    go (inl e) = rw (e .1, at) (getD-set-same by j (getD by j 0 + 1) 0 (omega arith))
+      where
+        at : i ≡ j
+        at = omega arith
+    go (inr e) = rw (e .1) (getD-set-other by i j (getD by i 0 + 1) 0 (λ q. e .0 (omega arith)) ∙ omega arith)
 
--- a record that is no offer is a link or a fault
-no-offer : (P : Entry → Type 0) → ((l : Link) → P (link l)) → ((k : ℕ) → P (fault k)) → (e : Entry) → ((o : Offer) → e ≡ offer o → ⊥) → P e
-no-offer P a b (link l) h = a l
-no-offer P a b (offer o) h = absurd (h o refl)
-no-offer P a b (fault k) h = b k
+-- ---- one record more
 
-pub some-offer : (os : List Offer) (o : Offer) (rest : List Offer) → os ≡ o ∷ rest → eqb (length os) 0 ≡ false
-some-offer os o rest e = rw e (ne-eqb (suc (length rest)) 0 (λ z. omega (arith, z)))
+-- an offer's member, as it is read
+pub offer-member : (f : List ℕ) (i : ℕ) (m : Member) (u : Units) (p : Price) → readingOf (entryAt f i) ≡ Reading.Offer m u p → (1 ≤ m .0) × (m .0 ≤ 32)
+offer-member f i m u p is = let h = subst Fits (offer-is (entryAt f i) m u p is) (entry-fits f i) in (h .low, h .high)
 
--- ---- one record more, of which r is the reading
-module _ (e : Entry) (es : List Entry) (r : Reading) (is : r ≡ readingOf e) where
-  module _ (t : OneOf (0 ∷ 2 ∷ []) (tagOf the-type r)) where
-    skip : offersOf (e ∷ es) ≡ offersOf es
-    unfolding offersOf
-    skip = no-offer (λ x. offersOf (x ∷ es) ≡ offersOf es) (λ l. refl) (λ k. refl) e (not-offer r e is t)
+module _ (e : Entry) (t : Tally) where
+  pub counts-link : (x r : Tally) (a b : Member) (c : Units) → readingOf e ≡ Reading.Link a b c → (x .members .0 ≡ max (t .members .0) (a .0)) × (x .offers ≡ t .offers) × (x .by ≡ t .by)
+      → (r .members .0 ≡ max (x .members .0) (b .0)) × (r .offers ≡ x .offers) × (r .by ≡ x .by) → Counts e t r
+  unfolding membersOf offersOf offersBy
+  counts-link x r a b c is g h =
+      subst (λ (k : Entry). Counts k t r) (sym (link-is e a b c is))
+      (record { members = omega arith; offers = omega arith; by = λ j l. ap (λ (k : List ℕ). getD k j 0) (h .2 ∙ g .2) ∙ omega arith })
 
-  module _ (m : Member) (u : Units) (p : Price) (o : r ≡ Reading.Offer m u p) where
-    take : offersOf (e ∷ es) ≡ theOffer m u p ∷ offersOf es
-    unfolding offersOf
-    take = rw (offer-is e m u p (sym is ∙ o))
+  pub counts-offer : (r : Tally) (m : Member) (u : Units) (p : Price) → readingOf e ≡ Reading.Offer m u p → Offered (m .0) t r → Counts e t r
+  unfolding membersOf offersOf offersBy
+  counts-offer r m u p is h =
+      subst (λ (k : Entry). Counts k t r) (sym (offer-is e m u p is))
+      (record { members = omega (arith, h .members); offers = omega (arith, h .offers); by = λ j l. omega (arith, h .by j l) })
 
--- ---- an offer's member, as it is read
-pub offer-member : (f : List ℕ) (i : ℕ) (r : Reading) → r ≡ readingOf (entryAt f i) → (m : Member) (u : Units) (p : Price) → r ≡ Reading.Offer m u p
-    → (1 ≤ m .0) × (m .0 ≤ 32)
-offer-member f i r is m u p o =
-    let fits : Fits (offer (theOffer m u p)) = rw (offer-is (entryAt f i) m u p (sym is ∙ o)) at (entry-fits f i) in
-    (fits .low, fits .high)
+  pub counts-fault : (k : ℕ) → readingOf e ≡ Reading.Fault k → Counts e t t
+  unfolding membersOf offersOf offersBy
+  counts-fault k is =
+      subst (λ (x : Entry). Counts x t t) (sym (fault-is e k is)) (record { members = omega arith; offers = omega arith; by = λ j l. omega arith })
 
--- ---- a pass over n records, of which the next is i
-module _ (f : List ℕ) (n i : ℕ) where
-  pub offers-none : n ≤ i → offersOf (entriesFrom f i (n - i)) ≡ []
-  unfolding offersOf
-  offers-none h = rw (ended f i n h)
-
-  module _ (h : i < n) (r : Reading) (is : r ≡ readingOf (entryAt f i)) where
-    pub offers-skip : OneOf (0 ∷ 2 ∷ []) (tagOf the-type r) → offersOf (entriesFrom f i (n - i)) ≡ offersOf (entriesFrom f (i + 1) (n - (i + 1)))
-    offers-skip t = rw (rest f i n h) (skip _ _ r is t)
-
-    pub offers-take : (m : Member) (u : Units) (p : Price) → r ≡ Reading.Offer m u p
-        → offersOf (entriesFrom f i (n - i)) ≡ theOffer m u p ∷ offersOf (entriesFrom f (i + 1) (n - (i + 1)))
-    offers-take m u p o = rw (rest f i n h) (take _ _ r is m u p o)
-
-pub offers-start : (f : List ℕ) → offersOf (entries f) ≡ offersOf (entriesFrom f 0 (length f / 8 - 0))
-unfolding entries
-offers-start f = rw (sub-zero (length f / 8))
-
--- ---- how many offers each member has
-
--- the counts of the offers before record i, of n
-pub record Counted (f by : List ℕ) (n i : ℕ) : Type 0 where
-  pub wide : length by ≡ 32
-  pub known : (j : ℕ) → j < 32 → offersBy (suc j) (offersOf (entries f)) ≡ getD by j 0 + offersBy (suc j) (offersOf (entriesFrom f i (n - i)))
-  pub small : (j : ℕ) → j < 32 → getD by j 0 ≤ i
-
-pub counted-start : (f : List ℕ) → Counted f (replicate 32 0) (length f / 8) 0
-counted-start f = record {
-  wide = refl;
-  known = λ j h. rw (offers-start f, getD-replicate {A = ℕ} 32 j 0 0 h) (omega arith);
-  small = λ j h. rw (getD-replicate {A = ℕ} 32 j 0 0 h) (omega arith);
-}
+-- a record's offers, at most one, and those of the records after it
+offers-apart : (e : Entry) (es : List Entry) → (length (offersOf (e ∷ es)) ≡ length (offersOf (e ∷ [])) + length (offersOf es)) × (length (offersOf (e ∷ [])) ≤ 1)
+unfolding offersOf
+offers-apart (link l) es = (omega arith, omega arith)
+offers-apart (offer o) es = (omega arith, omega arith)
+offers-apart (fault k) es = (omega arith, omega arith)
 
 at-most-one : (b : Bool) → cond b 1 0 ≤ 1
 at-most-one true = omega arith
 at-most-one false = omega arith
 
--- one more for member m
-added : (by : List ℕ) (m j : ℕ) → 1 ≤ m → m ≤ length by → getD (set by (m - 1) (getD by (m - 1) 0 + 1)) j 0 ≡ getD by j 0 + cond (eqb (suc j) m) 1 0
-added by m j low high = go (same? (suc j) m)
+by-apart : (j : ℕ) (e : Entry) (es : List Entry) → (offersBy j (offersOf (e ∷ es)) ≡ offersBy j (offersOf (e ∷ [])) + offersBy j (offersOf es)) × (offersBy j (offersOf (e ∷ [])) ≤ 1)
+unfolding offersOf offersBy
+by-apart j (link l) es = (omega arith, omega arith)
+by-apart j (offer o) es = (omega arith, omega (arith, at-most-one (eqb j (o .member))))
+by-apart j (fault k) es = (omega arith, omega arith)
+
+-- the tally t of the records before record i, of n, and what is left
+pub record Tallying (f : List ℕ) (n i : ℕ) (t : Tally) : Type 0 where
+  pub members : membersOf (entries f) ≡ max (t .members .0) (membersOf (entriesFrom f i (n - i)))
+  pub offers : length (offersOf (entries f)) ≡ t .offers + length (offersOf (entriesFrom f i (n - i)))
+  pub by : (j : ℕ) → j < 32 → offersBy (suc j) (offersOf (entries f)) ≡ getD (t .by) j 0 + offersBy (suc j) (offersOf (entriesFrom f i (n - i)))
+  pub few : t .offers ≤ i
+  pub each : (j : ℕ) → j < 32 → getD (t .by) j 0 ≤ i
+
+pub tallying-none : (f : List ℕ) → Tallying f (length f / 8) 0 (record { members = member 0; offers = 0; by = replicate 32 0 })
+unfolding entries
+tallying-none f = record {
+  members = rw (sub-zero (length f / 8)) (omega arith);
+  offers = rw (sub-zero (length f / 8)) (omega arith);
+  by = λ j h. rw (sub-zero (length f / 8), getD-replicate {A = ℕ} 32 j 0 0 h) (omega arith);
+  few = omega arith;
+  each = λ j h. rw (getD-replicate {A = ℕ} 32 j 0 0 h) (omega arith);
+}
+
+module _ (f : List ℕ) (n i : ℕ) (t : Tally) (T : Tallying f n i t) where
+  pub tallying-more : (r : Tally) → i < n → Counts (entryAt f i) t r → Tallying f n (i + 1) r
+  tallying-more r h c =
+      let e = entryAt f i in
+      let es = entriesFrom f (i + 1) (n - (i + 1)) in
+      let all : entriesFrom f i (n - i) ≡ e ∷ es = rest f i n h in
+      record {
+        members = T .members ∙ ap (λ (x : List Entry). max (t .members .0) (membersOf x)) all ∙ omega (arith, members-apart e es, c .members);
+        offers = T .offers ∙ ap (λ (x : List Entry). t .offers + length (offersOf x)) all ∙ omega (arith, offers-apart e es .0, c .offers);
+        by = λ j l. T .by j l ∙ ap (λ (x : List Entry). getD (t .by) j 0 + offersBy (suc j) (offersOf x)) all ∙ omega (arith, by-apart (suc j) e es .0, c .by j l);
+        few = omega (arith, T .few, c .offers, offers-apart e es .1);
+        each = λ j l. omega (arith, T .each j l, c .by j l, by-apart (suc j) e es .1);
+      }
+
+  pub tallying-done : n ≤ i → i ≤ 65535 → Tallied (entries f) t
+  unfolding membersOf offersOf offersBy
+  tallying-done h b =
+      let all : entriesFrom f i (n - i) ≡ [] = ended f i n h in
+      record {
+        members = sym (T .members ∙ ap (λ (x : List Entry). max (t .members .0) (membersOf x)) all ∙ omega arith);
+        offers = sym (T .offers ∙ ap (λ (x : List Entry). t .offers + length (offersOf x)) all ∙ omega arith);
+        by = λ j l. sym (T .by j l ∙ ap (λ (x : List Entry). getD (t .by) j 0 + offersBy (suc j) (offersOf x)) all ∙ omega arith);
+        few = λ j l. omega (arith, T .each j l);
+      }
+
+-- ---- the lowest member whose count is outside
+
+module _ (by : List ℕ) (least most j : ℕ) where
+  count : (b : Bool) → (ltb (getD by j 0) least || ltb most (getD by j 0)) ≡ b → outside by least most (suc j) ≡ b
+  unfolding outside
+  count b e = let at : j ≡ suc j - 1 = omega arith in subst (λ (i : ℕ). (ltb (getD by i 0) least || ltb most (getD by i 0)) ≡ b) at e
+
+  pub too-few : getD by j 0 < least → outside by least most (suc j) ≡ true
+  too-few h = count true (rw (lt-ltb _ least h))
+
+  module _ (l : least ≤ getD by j 0) where
+    pub too-high : most < getD by j 0 → outside by least most (suc j) ≡ true
+    too-high h = count true (rw (le-ltb _ least l, lt-ltb most _ h))
+
+    pub inside : getD by j 0 ≤ most → outside by least most (suc j) ≡ false
+    inside h = count false (rw (le-ltb _ least l, le-ltb most _ h))
+
+outside-is : (p : ℕ → Bool) (least most : ℕ) → ((x : ℕ) → x ≤ 65535 → p x ≡ (ltb x least || ltb most x)) → (f : List ℕ) (t : Tally) → Tallied (entries f) t
+    → lowestMember (λ j. p (offersBy j (offersOf (entries f)))) (membersOf (entries f)) ≡ lowestMember (outside (t .by) least most) (t .members .0)
+unfolding outside
+outside-is p least most h f t T =
+    ap (lowestMember (λ j. p (offersBy j (offersOf (entries f))))) (sym (T .members))
+    ∙ members-same _ _ (t .members .0) (λ k l. go k (omega (arith, T .members, members-few f)))
   where
-    go : ((suc j ≡ m) × (eqb (suc j) m ≡ true)) ⊎ ((suc j ≡ m → ⊥) × (eqb (suc j) m ≡ false)) → getD (set by (m - 1) (getD by (m - 1) 0 + 1)) j 0 ≡ getD by j 0 + cond (eqb (suc j) m) 1 0
-    go (inl e) = rw (e .1, at) (getD-set-same by j (getD by j 0 + 1) 0 (omega arith))
-      where
-        at : m - 1 ≡ j
-        at = omega arith
-    go (inr e) = rw (e .1) (getD-set-other by (m - 1) j (getD by (m - 1) 0 + 1) 0 (λ q. e .0 (omega arith)) ∙ omega arith)
+    go : (k : ℕ) → k < 32 → p (offersBy (suc k) (offersOf (entries f))) ≡ (ltb (getD (t .by) (suc k - 1) 0) least || ltb most (getD (t .by) (suc k - 1) 0))
+    go k l =
+        let at : k ≡ suc k - 1 = omega arith in
+        subst (λ (i : ℕ). p (offersBy (suc k) (offersOf (entries f))) ≡ (ltb (getD (t .by) i 0) least || ltb most (getD (t .by) i 0))) at
+        (ap p (sym (T .by k l)) ∙ h (getD (t .by) k 0) (T .few k l))
 
-module _ (f by : List ℕ) (n i : ℕ) (c : Counted f by n i) where
-  pub counted-done : n ≤ i → (j : ℕ) → j < 32 → getD by j 0 ≡ offersBy (suc j) (offersOf (entries f))
-  unfolding offersBy
-  counted-done h j l = rw (c .known j l, offers-none f n i h) (omega arith)
+no-count : (x : ℕ) → x ≤ 65535 → eqb x 0 ≡ (ltb x 1 || ltb 65535 x)
+no-count zero h = refl
+no-count (suc x) h = rw (ne-eqb (suc x) 0 (λ q. omega arith), le-ltb (suc x) 1 (omega arith), le-ltb 65535 (suc x) h)
 
-  module _ (h : i < n) (r : Reading) (is : r ≡ readingOf (entryAt f i)) where
-    pub counted-skip : OneOf (0 ∷ 2 ∷ []) (tagOf the-type r) → Counted f by n (i + 1)
-    counted-skip t = record {
-      wide = c .wide;
-      known = λ j l. rw (← offers-skip f n i h r is t) (c .known j l);
-      small = λ j l. omega (arith, c .small j l);
-    }
+module _ (f : List ℕ) (t : Tally) (T : Tallied (entries f) t) where
+  pub without-is : without (marketOf f) ≡ lowestMember (outside (t .by) 1 65535) (t .members .0)
+  unfolding without marketOf
+  without-is = outside-is (λ k. eqb k 0) 1 65535 no-count f t T
 
-    pub counted-more : (m : Member) (u : Units) (p : Price) → r ≡ Reading.Offer m u p
-        → Counted f (set by (m .0 - 1) (getD by (m .0 - 1) 0 + 1)) n (i + 1)
-    unfolding offersBy
-    counted-more m u p o = record {
-      wide = length-set by (m .0 - 1) (getD by (m .0 - 1) 0 + 1) ∙ c .wide;
-      known = λ j l. c .known j l ∙ ap (λ (os : List Offer). getD by j 0 + offersBy (suc j) os) (offers-take f n i h r is m u p o) ∙ rw (added by (m .0) j (member .0) high) (omega arith);
-      small = λ j l. rw (added by (m .0) j (member .0) high) (omega (arith, c .small j l, at-most-one (eqb (suc j) (m .0))));
-    }
-      where
-        member : (1 ≤ m .0) × (m .0 ≤ 32)
-        member = offer-member f i r is m u p o
-
-        high : m .0 ≤ length by
-        high = omega (arith, c .wide, member .1)
+  pub too-many-is : tooMany (marketOf f) ≡ lowestMember (outside (t .by) 0 64) (t .members .0)
+  unfolding tooMany marketOf
+  too-many-is = outside-is (λ k. ltb 64 k) 0 64 (λ x h. rw (le-ltb x 0 zero-le)) f t T

@@ -1,7 +1,7 @@
 -- What refusals 9 and 10 leave is a market on a tree; its walk by members is its walk by positions. Assumes nothing.
 use mathlib.Core.Path.{_≡_, refl, sym, ap, ap₂, _∙_}
 use mathlib.Core.Logic.{_⊎_, inl, inr}
-use mathlib.Core.Bool.{Bool, true, false, cond, not}
+use mathlib.Core.Bool.{Bool, true, false, cond, not, _&&_, _||_}
 use mathlib.Core.List.{List, [], _∷_}
 use mathlib.Core.Option.{none}
 use Prim.Native.Nat.{ℕ, zero, suc, _-_, _≤_, _<_, zero-le}
@@ -11,7 +11,7 @@ use lib.Dec.{eqb, ltb}
 use lib.ListN.{length}
 use borrow.Author.Tests.{eq-eqb, ne-eqb, ltb-false, not-false}
 use Rattle.problem.specs.Problem.{Link, Market, Stop, joins, joined, lowest, walk}
-use Rattle.problem.proofs.Tree.{Joined, Open, Tree}
+use Rattle.problem.proofs.Tree.{Joined, Open, Within, Tree}
 use Rattle.problem.proofs.Joins.{joined-is}
 use Rattle.problem.proofs.Max.{pick}
 use Rattle.problem.proofs.Count.{same?, lowest-below, lowest-is}
@@ -19,12 +19,9 @@ use Rattle.problem.proofs.Steps.{Hop, Walked, atPos, at-before, walk-walked, wa
 use Rattle.problem.proofs.Places.{fromPos, from-before, from-latest, from-lt}
 use Rattle.problem.proofs.Branch.{names, walk-names}
 use Rattle.problem.proofs.Arrange.{linkAt, placeOf, stops, member, parent, linkOf}
-use Rattle.records.specs.Records.{entries}
 use Rattle.records.specs.Refusals.{placeIf}
-use Rattle.records.specs.Market.{membersOf, linksOf, marketOf}
 use Rattle.market.specs.Refusals.{lowestMember, apart}
-use Rattle.market.specs.inner.Feeders.{memberAt, fromAt, positionOf, capacityOf}
-use Rattle.market.proofs.LinkRecords.{links-within}
+use Rattle.market.specs.inner.Feeders.{reachedAt, reachedFrom, positionOf, capacityOf}
 
 -- ---- the market is on a tree
 
@@ -46,9 +43,8 @@ all-joined m e zero p l = absurd (not-suc-le-zero p)
 all-joined m e (suc k) p l =
     joined-is (m .links) 1 (suc k) .0 (not-false (joined (m .links) 1 (suc k)) (none-lowest (λ j. not (joined (m .links) 1 j)) (m .members) e k l))
 
-pub tree-of : (f : List ℕ) → 1 ≤ membersOf (entries f) → Open [] (linksOf (entries f)) → apart (marketOf f) ≡ none → Tree (marketOf f)
-unfolding marketOf
-tree-of f p o e = record { some-member = p; within = links-within f; ringless = o; whole = all-joined (marketOf f) e }
+pub tree-of : (m : Market) → 1 ≤ m .members → Within (m .members) (m .links) → Open [] (m .links) → apart m ≡ none → Tree m
+tree-of m p w o e = record { some-member = p; within = w; ringless = o; whole = all-joined m e }
 
 -- ---- the walk by members and the walk by positions
 
@@ -61,12 +57,12 @@ cond-pick : (b : Bool) (x y z : ℕ) → y ≡ z → cond b x y ≡ pick b x z
 cond-pick true x y z e = refl
 cond-pick false x y z e = e
 
-member-names : (t : List Hop) (i : ℕ) → memberAt (names t) i ≡ atPos t i
-unfolding names memberAt
+member-names : (t : List Hop) (i : ℕ) → reachedAt (names t) i ≡ atPos t i
+unfolding names reachedAt
 member-names [] i = refl
 member-names (s ∷ t) i =
-    ap (λ (k : ℕ). cond (eqb i (suc k)) (s .at) (memberAt (names t) i)) (length-names t)
-    ∙ cond-pick (eqb i (suc (length t))) (s .at) (memberAt (names t) i) (atPos t i) (member-names t i)
+    ap (λ (k : ℕ). cond (eqb i (suc k)) (s .at) (reachedAt (names t) i)) (length-names t)
+    ∙ cond-pick (eqb i (suc (length t))) (s .at) (reachedAt (names t) i) (atPos t i) (member-names t i)
 
 from-zero : (t : List Hop) → fromPos t 0 ≡ 0
 from-zero [] = refl
@@ -78,32 +74,32 @@ from-le ls n t w zero = omega (arith, from-zero t)
 from-le ls n t w (suc i) = omega (arith, from-lt ls n t w (suc i) (omega arith))
 
 module _ (ls : List Link) (n : ℕ) where
-  from-names : (t : List Hop) → Walked ls n t → (i : ℕ) → i ≤ length t → fromAt (names t) i ≡ atPos t (fromPos t i)
-  unfolding names fromAt
+  from-names : (t : List Hop) → Walked ls n t → (i : ℕ) → i ≤ length t → reachedFrom (names t) i ≡ atPos t (fromPos t i)
+  unfolding names reachedFrom
   from-names [] w i l = refl
   from-names (s ∷ t) w i l =
-      ap (λ (k : ℕ). cond (eqb i (suc k)) (atPos t (s .from)) (fromAt (names t) i)) (length-names t) ∙ go (same? i (suc (length t))) (from-names t (w .4) i)
+      ap (λ (k : ℕ). cond (eqb i (suc k)) (atPos t (s .from)) (reachedFrom (names t) i)) (length-names t) ∙ go (same? i (suc (length t))) (from-names t (w .4) i)
     where
       go : ((i ≡ suc (length t)) × (eqb i (suc (length t)) ≡ true)) ⊎ ((i ≡ suc (length t) → ⊥) × (eqb i (suc (length t)) ≡ false))
-          → (i ≤ length t → fromAt (names t) i ≡ atPos t (fromPos t i))
-          → cond (eqb i (suc (length t))) (atPos t (s .from)) (fromAt (names t) i) ≡ atPos (s ∷ t) (fromPos (s ∷ t) i)
+          → (i ≤ length t → reachedFrom (names t) i ≡ atPos t (fromPos t i))
+          → cond (eqb i (suc (length t))) (atPos t (s .from)) (reachedFrom (names t) i) ≡ atPos (s ∷ t) (fromPos (s ∷ t) i)
       go (inl e) ih =
-          ap (λ (b : Bool). cond b (atPos t (s .from)) (fromAt (names t) i)) (e .1)
+          ap (λ (b : Bool). cond b (atPos t (s .from)) (reachedFrom (names t) i)) (e .1)
           ∙ sym (ap (atPos (s ∷ t)) (ap (fromPos (s ∷ t)) (e .0) ∙ from-latest s t) ∙ at-before s t (s .from) (w .2))
       go (inr e) ih =
           let h : i ≤ length t = omega (arith, e .0) in
-          ap (λ (b : Bool). cond b (atPos t (s .from)) (fromAt (names t) i)) (e .1) ∙ ih h
+          ap (λ (b : Bool). cond b (atPos t (s .from)) (reachedFrom (names t) i)) (e .1) ∙ ih h
           ∙ sym (ap (atPos (s ∷ t)) (from-before s t i h) ∙ at-before s t (fromPos t i) (omega (arith, from-le ls n t (w .4) i)))
 
-  position-names : (t : List Hop) → Walked ls n t → (i : ℕ) → i ≤ length t → positionOf (names t) (fromAt (names t) i) ≡ fromPos t i
+  position-names : (t : List Hop) → Walked ls n t → (i : ℕ) → i ≤ length t → positionOf (names t) (reachedFrom (names t) i) ≡ fromPos t i
   unfolding positionOf
   position-names t w i l =
-      let v = fromAt (names t) i in
+      let v = reachedFrom (names t) i in
       let at : v ≡ atPos t (fromPos t i) = from-names t w i l in
       let lp : fromPos t i ≤ length t = omega (arith, from-le ls n t w i) in
-      lowest-is (λ k. eqb (memberAt (names t) k) v) (suc (length (names t))) (fromPos t i) (omega (arith, length-names t))
-      (eq-eqb (memberAt (names t) (fromPos t i)) v (member-names t (fromPos t i) ∙ sym at))
-      (λ k lk. ne-eqb (memberAt (names t) k) v (λ q.
+      lowest-is (λ k. eqb (reachedAt (names t) k) v) (suc (length (names t))) (fromPos t i) (omega (arith, length-names t))
+      (eq-eqb (reachedAt (names t) (fromPos t i)) v (member-names t (fromPos t i) ∙ sym at))
+      (λ k lk. ne-eqb (reachedAt (names t) k) v (λ q.
       let same : k ≡ fromPos t i = pos-one ls n t w k (fromPos t i) (omega arith) lp (sym (member-names t k) ∙ q ∙ at) in
       omega arith))
 
@@ -118,6 +114,19 @@ capacity-place (l ∷ ls) u v = go (joins l u v) (capacity-place ls u v)
     go true ih = refl
     go false ih = ih
 
+-- a link carries as much one way as the other
+or-turn : (p q : Bool) → (p || q) ≡ (q || p)
+or-turn true true = refl
+or-turn true false = refl
+or-turn false true = refl
+or-turn false false = refl
+
+pub capacity-back : (ls : List Link) (u v : ℕ) → capacityOf ls u v ≡ capacityOf ls v u
+unfolding capacityOf
+capacity-back [] u v = refl
+capacity-back (l ∷ ls) u v =
+    ap₂ (λ (b : Bool) (k : ℕ). cond b (l .capacity) k) (or-turn (eqb (l .a) u && eqb (l .b) v) (eqb (l .a) v && eqb (l .b) u)) (capacity-back ls u v)
+
 -- ---- a market on a tree, by the positions of its walk
 module _ (m : Market) (R : Tree m) where
   is : walk m ≡ names (stops m)
@@ -130,17 +139,17 @@ module _ (m : Market) (R : Tree m) where
   pub full : suc (length (stops m)) ≡ m .members
   full = walk-all (m .links) (m .members) (R .some-member) (R .within) (R .whole)
 
-  pub member-at : (i : ℕ) → memberAt (walk m) i ≡ member m i
-  member-at i = ap (λ (t : List Stop). memberAt t i) is ∙ member-names (stops m) i
+  pub member-at : (i : ℕ) → reachedAt (walk m) i ≡ member m i
+  member-at i = ap (λ (t : List Stop). reachedAt t i) is ∙ member-names (stops m) i
 
-  pub from-at : (i : ℕ) → i < m .members → fromAt (walk m) i ≡ member m (parent m i)
+  pub from-at : (i : ℕ) → i < m .members → reachedFrom (walk m) i ≡ member m (parent m i)
   from-at i l =
-      ap (λ (t : List Stop). fromAt t i) is ∙ from-names (m .links) (suc (m .members)) (stops m) ok i (omega (arith, full))
+      ap (λ (t : List Stop). reachedFrom t i) is ∙ from-names (m .links) (suc (m .members)) (stops m) ok i (omega (arith, full))
 
-  pub parent-at : (i : ℕ) → i < m .members → positionOf (walk m) (fromAt (walk m) i) ≡ parent m i
+  pub parent-at : (i : ℕ) → i < m .members → positionOf (walk m) (reachedFrom (walk m) i) ≡ parent m i
   parent-at i l =
-      ap (λ (t : List Stop). positionOf t (fromAt t i)) is ∙ position-names (m .links) (suc (m .members)) (stops m) ok i (omega (arith, full))
+      ap (λ (t : List Stop). positionOf t (reachedFrom t i)) is ∙ position-names (m .links) (suc (m .members)) (stops m) ok i (omega (arith, full))
 
-  pub capacity-at : (i : ℕ) → i < m .members → capacityOf (m .links) (memberAt (walk m) i) (fromAt (walk m) i) ≡ linkAt (m .links) (linkOf m i) .capacity
+  pub capacity-at : (i : ℕ) → i < m .members → capacityOf (m .links) (reachedAt (walk m) i) (reachedFrom (walk m) i) ≡ linkAt (m .links) (linkOf m i) .capacity
   capacity-at i l =
       ap₂ (capacityOf (m .links)) (member-at i) (from-at i l) ∙ capacity-place (m .links) (member m i) (member m (parent m i))

@@ -47,12 +47,22 @@ closes earlier (fault k) = false
 unfoldable pub apart : Market → Option ℕ
 apart m = lowestMember (λ j. not (joined (m .links) 1 j)) (m .members)
 
--- refusals 1 to 10, of which 8 is never given: the first that applies
+-- refusals 5 to 10, of which 8 is never given: the first that applies, from each on
+abbrev pub from10 : List ℕ → Option Refusal
+from10 f = refusal 10 (apart (marketOf f))
+
+abbrev pub from9 : List ℕ → Option Refusal
+from9 f = refusal 9 (firstRecord closes 0 [] (entries f)) otherwise from10 f
+
+abbrev pub from7 : List ℕ → Option Refusal
+from7 f = refusal 7 (tooMany (marketOf f)) otherwise from9 f
+
+abbrev pub from6 : List ℕ → Option Refusal
+from6 f = refusal 6 (without (marketOf f)) otherwise from7 f
+
+abbrev pub from5 : List ℕ → Option Refusal
+from5 f = refusal 5 (noOffer (marketOf f)) otherwise from6 f
+
+-- refusals 1 to 10: the first that applies
 unfoldable pub faultOf : List ℕ → Option Refusal
-faultOf f =
-    unsound f
-    otherwise refusal 5 (noOffer (marketOf f))
-    otherwise refusal 6 (without (marketOf f))
-    otherwise refusal 7 (tooMany (marketOf f))
-    otherwise refusal 9 (firstRecord closes 0 [] (entries f))
-    otherwise refusal 10 (apart (marketOf f))
+faultOf f = unsound f otherwise from5 f

@@ -1,2 +1,4 @@
 pub mod Cases
 pub mod Feeders
+pub mod Lines
+pub mod Tallies

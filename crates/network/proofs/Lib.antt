@@ -1,4 +1,5 @@
 pub mod Bit
 pub mod Order
 pub mod Near
-pub mod Parts
+pub mod Merges
+pub mod Stops

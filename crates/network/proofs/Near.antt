@@ -12,8 +12,10 @@ use lib.Seq.{getD-set-same, getD-set-other}
 use lib.Bits.{bitOr}
 use lib.Dec.{eqb}
 use borrow.Author.Tests.{eq-eqb, ne-eqb}
-use Rattle.network.proofs.Bit.{holds, holds-or, holds-one, holds-none, holds-small, holds-bit, bit-holds, Lowest}
-use Rattle.network.proofs.Order.{Adj, WalkOf}
+use Rattle.network.specs.inner.Sets.{holds, Lowest}
+use Rattle.network.specs.inner.Walks.{mark, addMasks, Masks, Adj, WalkOf, Blank}
+use Rattle.network.proofs.Bit.{holds-or, holds-one, holds-none, holds-small, holds-bit, bit-holds}
+use Rattle.numbers.specs.declared.Member.{Member}
 use Rattle.problem.specs.Problem.{Link, neighbours, joined}
 use Rattle.problem.proofs.Tree.{Within}
 use Rattle.problem.proofs.Joins.{joined-is}
@@ -21,25 +23,9 @@ use Rattle.problem.proofs.Count.{same?, either}
 use Rattle.problem.proofs.Steps.{hops, reached, reached-pos, at-in, walk-visits, walk-walked}
 use Rattle.numbers.proofs.Tests.{true-false}
 
--- x in the mask at i
-abbrev pub mark : List ℕ → ℕ → ℕ → List ℕ
-mark adj i x = set adj i (bitOr (getD adj i 0) (2 ^ x))
-
--- a and b are neighbours
-abbrev pub addMasks : List ℕ → ℕ → ℕ → List ℕ
-addMasks adj a b = mark (mark adj a b) b a
-
--- the masks are of the links
-abbrev pub Masks : List ℕ → List Link → Type 0
-Masks adj ls = (v w : ℕ) → v < 32 → holds (getD adj v 0) w ≡ neighbours ls (suc v) (suc w)
-
 -- the neighbours of all the links are those of the masks so far and those of the links that are left
 pub record Near (whole : List Link) (adj : List ℕ) (left : List Link) : Type 0 where
   pub near : (v w : ℕ) → v < 32 → neighbours whole (suc v) (suc w) ≡ (holds (getD adj v 0) w || neighbours left (suc v) (suc w))
-
--- 0 at every place from n on
-abbrev pub Blank : ℕ → List ℕ → Type 0
-Blank n l = (i : ℕ) → n ≤ i → getD l i 0 ≡ 0
 
 same-test : (x y u v : ℕ) → (x ≡ y → u ≡ v) → (u ≡ v → x ≡ y) → eqb x y ≡ eqb u v
 same-test x y u v f g = go (same? x y)
@@ -128,7 +114,7 @@ adj-of ls n adj p l w M = record { some-member = p; few = l; within = w; masks =
 
 -- ---- the members that the walk reaches
 
-module _ (ls : List Link) (n : ℕ) (adj mem from : List ℕ) (count mask : ℕ) (A : Adj ls n adj) (W : WalkOf adj mem from count mask) where
+module _ (ls : List Link) (n : ℕ) (adj : List ℕ) (mem : List Member) (from : List ℕ) (count mask : ℕ) (A : Adj ls n adj) (W : WalkOf adj mem from count mask) where
   pub reached-small : mask < 2 ^ n
   reached-small = holds-small n 32 mask (W ls n A .fits) (λ k l. W ls n A .seen k ∙ go k l (either (reached (hops ls (suc n) (suc n)) (suc k))))
     where
@@ -163,10 +149,10 @@ module _ (ls : List Link) (n : ℕ) (adj mem from : List ℕ) (count mask : ℕ)
   not-joined r L l = sym (reached-joined r) ∙ holds-bit mask r (L .missing l)
 
 -- ---- an array filled place by place
-pub blank-none : (k n : ℕ) → Blank n (replicate k 0)
-blank-none zero n i h = refl
-blank-none (suc k) n zero h = refl
-blank-none (suc k) n (suc i) h = blank-none k 0 i zero-le
+pub blank-none : {A : Type 0} (x : A) (k n : ℕ) → Blank x n (replicate k x)
+blank-none x zero n i h = refl
+blank-none x (suc k) n zero h = refl
+blank-none x (suc k) n (suc i) h = blank-none x k 0 i zero-le
 
-pub blank-set : (l : List ℕ) (n x : ℕ) → Blank n l → Blank (n + 1) (set l n x)
-blank-set l n x B i h = getD-set-other l n i x 0 (λ e. omega arith) ∙ B i (omega arith)
+pub blank-set : {A : Type 0} (x : A) (l : List A) (n : ℕ) (y : A) → Blank x n l → Blank x (n + 1) (set l n y)
+blank-set x l n y B i h = getD-set-other l n i y x (λ e. omega arith) ∙ B i (omega arith)

@@ -10,11 +10,15 @@ use native.Mathlib.Omega.{arith}
 use lib.ListN.{length, getD, set}
 use lib.Seq.{getD-set-same, getD-set-other}
 use lib.Dec.{eqb, ltb, lit<}
-use lib.Bits.{bitAnd, bitOr, and-le-r, or-lt}
+use lib.Bits.{bitOr, and-le-r, or-lt}
 use lib.Pow.{ones-sub-lt, pow-lt}
 use lib.Count.{trailingZeros}
 use borrow.Author.Tests.{eq-eqb, ne-eqb, ltb-true, lt-ltb}
-use Rattle.network.proofs.Bit.{holds, holds-and, holds-or, holds-not, holds-one, holds-none, trailing-holds, trailing-clear, trailing-inside}
+use Rattle.network.specs.inner.Sets.{holds}
+use Rattle.network.specs.inner.Walks.{freeMask, onMask, Adj, Holds, WalkOf}
+use Rattle.network.proofs.Bit.{holds-and, holds-or, holds-not, holds-one, holds-none, trailing-holds, trailing-clear, trailing-inside}
+use Rattle.numbers.specs.declared.Member.{Member}
+use Rattle.numbers.specs.inner.Held.{member, memberIn}
 use Rattle.problem.specs.Problem.{Link, neighbours, lowest}
 use Rattle.problem.proofs.Tree.{Within}
 use Rattle.problem.proofs.Count.{same?, either, lowest-is, lowest-hit}
@@ -24,33 +28,6 @@ use Rattle.problem.proofs.Steps.{Hop, Walked, atPos, at-before, at-latest, at-i
 use Rattle.problem.proofs.Places.{fromPos, from-before, from-latest}
 use Rattle.problem.proofs.Branch.{walk-more, walk-stays}
 
--- the neighbours not yet mask
-abbrev pub freeMask : ℕ → ℕ → ℕ
-freeMask nb mask = bitAnd nb ((2 ^ 32 - 1) - mask)
-
--- the next stop, from the positions below k
-unfoldable pub onMask : List ℕ → List ℕ → ℕ → ℕ → Option Hop
-onMask adj mem mask zero = none
-onMask adj mem mask (suc k) =
-    orElse (not (eqb (freeMask (getD adj (getD mem k 0) 0) mask) 0))
-    (some (record { at = suc (trailingZeros 32 (freeMask (getD adj (getD mem k 0) 0) mask)); from = k }))
-    (onMask adj mem mask k)
-
--- the masks of the neighbours
-pub record Adj (ls : List Link) (n : ℕ) (adj : List ℕ) : Type 0 where
-  pub some-member : 0 < n
-  pub few : n ≤ 32
-  pub within : Within n ls
-  pub masks : (v w : ℕ) → v < n → holds (getD adj v 0) w ≡ neighbours ls (suc v) (suc w)
-
--- what the arrays say of the walk t
-pub record Holds (t : List Hop) (mem from : List ℕ) (count mask : ℕ) : Type 0 where
-  pub counted : count ≡ suc (length t)
-  pub members : (i : ℕ) → i ≤ length t → suc (getD mem i 0) ≡ atPos t i
-  pub froms : (i : ℕ) → i ≤ length t → getD from i 0 ≡ fromPos t i
-  pub seen : (v : ℕ) → holds mask v ≡ reached t (suc v)
-  pub fits : mask < 2 ^ 32
-
 eqb-suc : (x y : ℕ) → eqb x y ≡ eqb (suc x) (suc y)
 eqb-suc x y = go (same? x y)
   where
@@ -59,7 +36,7 @@ eqb-suc x y = go (same? x y)
     go (inr e) = e .1 ∙ sym (ne-eqb (suc x) (suc y) (λ q. e .0 (omega arith)))
 
 -- one mask: its lowest member is the lowest free neighbour
-module _ (ls : List Link) (n : ℕ) (adj : List ℕ) (A : Adj ls n adj) (t : List Hop) (mem from : List ℕ) (count mask : ℕ) (H : Holds t mem from count mask) where
+module _ (ls : List Link) (n : ℕ) (adj : List ℕ) (A : Adj ls n adj) (t : List Hop) (mem : List Member) (from : List ℕ) (count mask : ℕ) (H : Holds t mem from count mask) where
   mask-free : (v w : ℕ) → v < n → w < 32 → holds (freeMask (getD adj v 0) mask) w ≡ free ls t (suc v) (suc w)
   mask-free v w l lw =
       holds-and (getD adj v 0) ((2 ^ 32 - 1) - mask) w
@@ -102,19 +79,22 @@ module _ (ls : List Link) (n : ℕ) (adj : List ℕ) (A : Adj ls n adj) (t : Lis
       below (suc k) lk lx q = sym (mask-free v k l (omega arith)) ∙ trailing-clear 32 (freeMask (getD adj v 0) mask) k (omega arith)
 
   -- so the search over masks is the walk's search
-  pub on-mask : (k : ℕ) → k ≤ count → ((i : ℕ) → i ≤ length t → getD mem i 0 < n) → onMask adj mem mask k ≡ onFrom ls (suc n) t k
+  pub on-mask : (k : ℕ) → k ≤ count → ((i : ℕ) → i ≤ length t → (1 ≤ memberIn mem i) × (memberIn mem i ≤ n)) → onMask adj mem mask k ≡ onFrom ls (suc n) t k
   unfolding onMask onFrom
   on-mask zero h b = refl
-  on-mask (suc k) h b = go (same? (freeMask (getD adj (getD mem k 0) 0) mask) 0) (on-mask k (omega arith) b)
+  on-mask (suc k) h b = go (same? (freeMask (getD adj (memberIn mem k - 1) 0) mask) 0) (on-mask k (omega arith) b)
     where
       v : ℕ
-      v = getD mem k 0
+      v = memberIn mem k - 1
 
       lk : k ≤ length t
       lk = omega (arith, H .counted)
 
       at : suc v ≡ atPos t k
-      at = H .members k lk
+      at = omega (arith, b k lk, H .members k lk)
+
+      in-n : v < n
+      in-n = omega (arith, b k lk)
 
       m : ℕ
       m = freeMask (getD adj v 0) mask
@@ -130,9 +110,9 @@ module _ (ls : List Link) (n : ℕ) (adj : List ℕ) (A : Adj ls n adj) (t : Lis
           ≡ next (ltb (lowest (free ls t (atPos t k)) (suc n)) (suc n)) (lowest (free ls t (atPos t k)) (suc n))
       go (inl e) ih =
           ap (λ (q : Bool). orElse (not q) (some (record { at = suc (trailingZeros 32 m); from = k })) (onMask adj mem mask k)) (e .1) ∙ ih
-          ∙ sym (ap (λ (q : Bool). next q (lowest (free ls t (suc v)) (suc n))) (none-free v (b k lk) (e .0))) ∙ there
+          ∙ sym (ap (λ (q : Bool). next q (lowest (free ls t (suc v)) (suc n))) (none-free v in-n (e .0))) ∙ there
       go (inr e) ih =
-          let s = some-free v (b k lk) (e .0) in
+          let s = some-free v in-n (e .0) in
           ap (λ (q : Bool). orElse (not q) (some (record { at = suc (trailingZeros 32 m); from = k })) (onMask adj mem mask k)) (e .1)
           ∙ ap {B = Option Hop} (λ (x : ℕ). some (record { at = x; from = k })) (sym (s .1))
           ∙ sym (ap (λ (q : Bool). next q (lowest (free ls t (suc v)) (suc n))) (lt-ltb (lowest (free ls t (suc v)) (suc n)) (suc n) (subst (λ (x : ℕ). x < suc n) (sym (s .1)) (s .0))))
@@ -143,36 +123,36 @@ module _ (ls : List Link) (n : ℕ) (adj : List ℕ) (A : Adj ls n adj) (t : Lis
 suc-sub-one : (k : ℕ) → suc k - 1 ≡ k
 suc-sub-one k = omega arith
 
-pub on-hit : (adj mem : List ℕ) (mask k : ℕ) → 0 < k → (freeMask (getD adj (getD mem (k - 1) 0) 0) mask ≡ 0 → ⊥)
-    → onMask adj mem mask k ≡ some (record { at = suc (trailingZeros 32 (freeMask (getD adj (getD mem (k - 1) 0) 0) mask)); from = k - 1 })
+pub on-hit : (adj : List ℕ) (mem : List Member) (mask k : ℕ) → 0 < k → (freeMask (getD adj (memberIn mem (k - 1) - 1) 0) mask ≡ 0 → ⊥)
+    → onMask adj mem mask k ≡ some (record { at = suc (trailingZeros 32 (freeMask (getD adj (memberIn mem (k - 1) - 1) 0) mask)); from = k - 1 })
 unfolding onMask
 on-hit adj mem mask zero p d = absurd (omega arith)
 on-hit adj mem mask (suc k) p d = subst P (sym (suc-sub-one k)) at-k (subst Q (suc-sub-one k) d)
   where
     Q : ℕ → Type 0
-    Q i = freeMask (getD adj (getD mem i 0) 0) mask ≡ 0 → ⊥
+    Q i = freeMask (getD adj (memberIn mem i - 1) 0) mask ≡ 0 → ⊥
 
     P : ℕ → Type 0
-    P i = (freeMask (getD adj (getD mem k 0) 0) mask ≡ 0 → ⊥) → onMask adj mem mask (suc k) ≡ some (record { at = suc (trailingZeros 32 (freeMask (getD adj (getD mem i 0) 0) mask)); from = i })
+    P i = (freeMask (getD adj (memberIn mem k - 1) 0) mask ≡ 0 → ⊥) → onMask adj mem mask (suc k) ≡ some (record { at = suc (trailingZeros 32 (freeMask (getD adj (memberIn mem i - 1) 0) mask)); from = i })
 
     at-k : P k
-    at-k e = ap (λ (q : Bool). orElse (not q) (some (record { at = suc (trailingZeros 32 (freeMask (getD adj (getD mem k 0) 0) mask)); from = k })) (onMask adj mem mask k)) (ne-eqb (freeMask (getD adj (getD mem k 0) 0) mask) 0 e)
+    at-k e = ap (λ (q : Bool). orElse (not q) (some (record { at = suc (trailingZeros 32 (freeMask (getD adj (memberIn mem k - 1) 0) mask)); from = k })) (onMask adj mem mask k)) (ne-eqb (freeMask (getD adj (memberIn mem k - 1) 0) mask) 0 e)
 
-pub on-miss : (adj mem : List ℕ) (mask k : ℕ) → 0 < k → freeMask (getD adj (getD mem (k - 1) 0) 0) mask ≡ 0 → onMask adj mem mask k ≡ onMask adj mem mask (k - 1)
+pub on-miss : (adj : List ℕ) (mem : List Member) (mask k : ℕ) → 0 < k → freeMask (getD adj (memberIn mem (k - 1) - 1) 0) mask ≡ 0 → onMask adj mem mask k ≡ onMask adj mem mask (k - 1)
 unfolding onMask
 on-miss adj mem mask zero p e = absurd (omega arith)
 on-miss adj mem mask (suc k) p e =
-    ap (λ (q : Bool). orElse (not q) (some (record { at = suc (trailingZeros 32 (freeMask (getD adj (getD mem k 0) 0) mask)); from = k })) (onMask adj mem mask k))
-    (eq-eqb (freeMask (getD adj (getD mem k 0) 0) mask) 0 (subst (λ (i : ℕ). freeMask (getD adj (getD mem i 0) 0) mask ≡ 0) (suc-sub-one k) e))
+    ap (λ (q : Bool). orElse (not q) (some (record { at = suc (trailingZeros 32 (freeMask (getD adj (memberIn mem k - 1) 0) mask)); from = k })) (onMask adj mem mask k))
+    (eq-eqb (freeMask (getD adj (memberIn mem k - 1) 0) mask) 0 (subst (λ (i : ℕ). freeMask (getD adj (memberIn mem i - 1) 0) mask ≡ 0) (suc-sub-one k) e))
     ∙ ap (onMask adj mem mask) (sym (suc-sub-one k))
 
-pub on-lt : (adj mem : List ℕ) (mask k : ℕ) (s : Hop) → onMask adj mem mask k ≡ some s → (1 ≤ s .at) × (s .at ≤ 32) × (s .from < k)
+pub on-lt : (adj : List ℕ) (mem : List Member) (mask k : ℕ) (s : Hop) → onMask adj mem mask k ≡ some s → (1 ≤ s .at) × (s .at ≤ 32) × (s .from < k)
 unfolding onMask
 on-lt adj mem mask zero s e = absurd (not-some e)
 on-lt adj mem mask (suc k) s e = go (same? m 0) e (on-lt adj mem mask k s)
   where
     m : ℕ
-    m = freeMask (getD adj (getD mem k 0) 0) mask
+    m = freeMask (getD adj (memberIn mem k - 1) 0) mask
 
     up : (1 ≤ s .at) × (s .at ≤ 32) × (s .from < k) → (1 ≤ s .at) × (s .at ≤ 32) × (s .from < suc k)
     up p = (p .0, p .1, omega (arith, p .2))
@@ -183,21 +163,23 @@ on-lt adj mem mask (suc k) s e = go (same? m 0) e (on-lt adj mem mask k s)
     go (inr q) e ih =
         subst (λ (r : Hop). (1 ≤ r .at) × (r .at ≤ 32) × (r .from < suc k))
         (some-inj (sym (ap (λ (b : Bool). orElse (not b) (some (record { at = suc (trailingZeros 32 m); from = k })) (onMask adj mem mask k)) (q .1)) ∙ e))
-        (omega arith, trailing-inside 32 m (lt-of-le-of-lt (and-le-r (getD adj (getD mem k 0) 0) ((2 ^ 32 - 1) - mask)) (ones-sub-lt 32 mask)) (q .0), le-refl _)
+        (omega arith, trailing-inside 32 m (lt-of-le-of-lt (and-le-r (getD adj (memberIn mem k - 1) 0) ((2 ^ 32 - 1) - mask)) (ones-sub-lt 32 mask)) (q .0), le-refl _)
 
 -- ---- one stop more in the arrays
 
 abbrev pub hop : ℕ → ℕ → Hop
-hop x f = record { at = suc x; from = f }
+hop w f = record { at = w; from = f }
 
-pub holds-step : (t : List Hop) (mem from : List ℕ) (count mask x f : ℕ) → Holds t mem from count mask → count < length mem → count < length from → x < 32
-    → Holds (hop x f ∷ t) (set mem count x) (set from count f) (count + 1) (bitOr mask (2 ^ x))
-holds-step t mem from count mask x f H lm lf l = record {
+pub holds-step : (t : List Hop) (mem : List Member) (from : List ℕ) (count mask : ℕ) (w : Member) (f : ℕ) → Holds t mem from count mask → count < length mem → count < length from
+    → 1 ≤ w .0 → w .0 ≤ 32 → Holds (hop (w .0) f ∷ t) (set mem count w) (set from count f) (count + 1) (bitOr mask (2 ^ (w .0 - 1)))
+holds-step t mem from count mask w f H lm lf lo l = record {
   counted = omega (arith, H .counted);
   members = λ i h. mem-at i h (same? i (suc (length t)));
   froms = λ i h. from-at i h (same? i (suc (length t)));
-  seen = λ v. holds-or mask (2 ^ x) v ∙ ap₂ _||_ (H .seen v) (holds-one x v ∙ eqb-suc v x) ∙ or-comm′ (reached t (suc v)) (eqb (suc v) (suc x));
-  fits = or-lt 32 mask (2 ^ x) (H .fits) (pow-lt l);
+  seen = λ v.
+      holds-or mask (2 ^ (w .0 - 1)) v ∙ ap₂ _||_ (H .seen v) (holds-one (w .0 - 1) v ∙ eqb-suc v (w .0 - 1) ∙ ap (eqb (suc v)) (omega arith))
+      ∙ or-comm′ (reached t (suc v)) (eqb (suc v) (w .0));
+  fits = or-lt 32 mask (2 ^ (w .0 - 1)) (H .fits) (pow-lt {i = w .0 - 1} {j = 32} (omega arith));
 }
   where
     or-comm′ : (p q : Bool) → (p || q) ≡ (q || p)
@@ -207,50 +189,54 @@ holds-step t mem from count mask x f H lm lf l = record {
     or-comm′ false false = refl
 
     mem-at : (i : ℕ) → i ≤ suc (length t) → ((i ≡ suc (length t)) × (eqb i (suc (length t)) ≡ true)) ⊎ ((i ≡ suc (length t) → ⊥) × (eqb i (suc (length t)) ≡ false))
-        → suc (getD (set mem count x) i 0) ≡ atPos (hop x f ∷ t) i
+        → memberIn (set mem count w) i ≡ atPos (hop (w .0) f ∷ t) i
     mem-at i h (inl e) =
-        ap (λ (k : ℕ). suc (getD (set mem count x) k 0)) (e .0 ∙ sym (H .counted)) ∙ ap suc (getD-set-same mem count x 0 lm)
-        ∙ sym (ap (atPos (hop x f ∷ t)) (e .0) ∙ at-latest (hop x f ∷ t))
+        ap (λ (k : ℕ). memberIn (set mem count w) k) (e .0 ∙ sym (H .counted)) ∙ ap (λ (u : Member). u .0) (getD-set-same mem count w (member 0) lm)
+        ∙ sym (ap (atPos (hop (w .0) f ∷ t)) (e .0) ∙ at-latest (hop (w .0) f ∷ t))
     mem-at i h (inr e) =
-        ap suc (getD-set-other mem count i x 0 (λ q. e .0 (q ∙ H .counted))) ∙ H .members i (omega (arith, e .0)) ∙ sym (at-before (hop x f) t i (omega (arith, e .0)))
+        ap (λ (u : Member). u .0) (getD-set-other mem count i w (member 0) (λ q. e .0 (q ∙ H .counted))) ∙ H .members i (omega (arith, e .0))
+        ∙ sym (at-before (hop (w .0) f) t i (omega (arith, e .0)))
 
     from-at : (i : ℕ) → i ≤ suc (length t) → ((i ≡ suc (length t)) × (eqb i (suc (length t)) ≡ true)) ⊎ ((i ≡ suc (length t) → ⊥) × (eqb i (suc (length t)) ≡ false))
-        → getD (set from count f) i 0 ≡ fromPos (hop x f ∷ t) i
+        → getD (set from count f) i 0 ≡ fromPos (hop (w .0) f ∷ t) i
     from-at i h (inl e) =
         ap (λ (k : ℕ). getD (set from count f) k 0) (e .0 ∙ sym (H .counted)) ∙ getD-set-same from count f 0 lf
-        ∙ sym (ap (fromPos (hop x f ∷ t)) (e .0) ∙ from-latest (hop x f) t)
+        ∙ sym (ap (fromPos (hop (w .0) f ∷ t)) (e .0) ∙ from-latest (hop (w .0) f) t)
     from-at i h (inr e) =
-        getD-set-other from count i f 0 (λ q. e .0 (q ∙ H .counted)) ∙ H .froms i (omega (arith, e .0)) ∙ sym (from-before (hop x f) t i (omega (arith, e .0)))
+        getD-set-other from count i f 0 (λ q. e .0 (q ∙ H .counted)) ∙ H .froms i (omega (arith, e .0)) ∙ sym (from-before (hop (w .0) f) t i (omega (arith, e .0)))
 
 -- ---- the loop of the walk: for every market that the masks are of, the arrays hold the walk so far
-abbrev pub Walking : List ℕ → List ℕ → List ℕ → ℕ → ℕ → Type 0
+abbrev pub Walking : List ℕ → List Member → List ℕ → ℕ → ℕ → Type 0
 Walking adj mem from count mask = (ls : List Link) (n : ℕ) → Adj ls n adj → (j : ℕ) → count ≡ suc j → Holds (hops ls (suc n) j) mem from count mask
 
-zero-at : (l : List ℕ) → getD l 0 0 ≡ 0 → (i : ℕ) → i ≤ 0 → getD l i 0 ≡ 0
-zero-at l h i le = ap (λ (k : ℕ). getD l k 0) (omega arith) ∙ h
+first-only : (g : ℕ → ℕ) (x : ℕ) → g 0 ≡ x → (i : ℕ) → i ≤ 0 → g i ≡ x
+first-only g x h i le = ap g (omega arith) ∙ h
 
-start : (ls : List Link) (n : ℕ) (mem from : List ℕ) → getD mem 0 0 ≡ 0 → getD from 0 0 ≡ 0 → Holds (hops ls n 0) mem from 1 1
+start : (ls : List Link) (n : ℕ) (mem : List Member) (from : List ℕ) → memberIn mem 0 ≡ 1 → getD from 0 0 ≡ 0 → Holds (hops ls n 0) mem from 1 1
 unfolding hops
-start ls n mem from p q = record { counted = refl; members = λ i l. ap suc (zero-at mem p i l); froms = zero-at from q; seen = λ v. holds-one 0 v ∙ eqb-suc v 0; fits = lit< tt }
+start ls n mem from p q = record { counted = refl; members = first-only (memberIn mem) 1 p; froms = first-only (λ i. getD from i 0) 0 q; seen = λ v. holds-one 0 v ∙ eqb-suc v 0; fits = lit< tt }
 
-pub walking-none : (adj mem from : List ℕ) → getD mem 0 0 ≡ 0 → getD from 0 0 ≡ 0 → Walking adj mem from 1 1
+pub walking-none : (adj : List ℕ) (mem : List Member) (from : List ℕ) → memberIn mem 0 ≡ 1 → getD from 0 0 ≡ 0 → Walking adj mem from 1 1
 walking-none adj mem from p q ls n A j e = subst (λ (k : ℕ). Holds (hops ls (suc n) k) mem from 1 1) (omega arith) (start ls (suc n) mem from p q)
 
-mem-lt : (ls : List Link) (n : ℕ) (adj : List ℕ) → Adj ls n adj → (j : ℕ) (mem from : List ℕ) (count mask : ℕ) → Holds (hops ls (suc n) j) mem from count mask
-    → (i : ℕ) → i ≤ length (hops ls (suc n) j) → getD mem i 0 < n
-mem-lt ls n adj A j mem from count mask H i l =
-    omega (arith, H .members i l, at-in ls n (A .some-member) (A .within) (hops ls (suc n) j) (walk-walked ls (suc n) j) i .1)
+mem-in : (ls : List Link) (n : ℕ) (adj : List ℕ) → Adj ls n adj → (j : ℕ) (mem : List Member) (from : List ℕ) (count mask : ℕ) → Holds (hops ls (suc n) j) mem from count mask
+    → (i : ℕ) → i ≤ length (hops ls (suc n) j) → (1 ≤ memberIn mem i) × (memberIn mem i ≤ n)
+mem-in ls n adj A j mem from count mask H i l =
+    let a = at-in ls n (A .some-member) (A .within) (hops ls (suc n) j) (walk-walked ls (suc n) j) i in
+    (omega (arith, H .members i l, a .0), omega (arith, H .members i l, a .1))
 
-pub walking-more : (adj mem from : List ℕ) (count mask x f : ℕ) → count < length mem → count < length from → onMask adj mem mask count ≡ some (hop x f)
-    → Walking adj mem from count mask → Walking adj (set mem count x) (set from count f) (count + 1) (bitOr mask (2 ^ x))
-walking-more adj mem from count mask x f lm lf e W ls n A zero q = absurd (omega (arith, on-lt adj mem mask count (hop x f) e .2))
-walking-more adj mem from count mask x f lm lf e W ls n A (suc j) q =
+pub walking-more : (adj : List ℕ) (mem : List Member) (from : List ℕ) (count mask : ℕ) (w : Member) (f : ℕ) → count < length mem → count < length from
+    → onMask adj mem mask count ≡ some (hop (w .0) f)
+    → Walking adj mem from count mask → Walking adj (set mem count w) (set from count f) (count + 1) (bitOr mask (2 ^ (w .0 - 1)))
+walking-more adj mem from count mask w f lm lf e W ls n A zero q = absurd (omega (arith, on-lt adj mem mask count (hop (w .0) f) e .2))
+walking-more adj mem from count mask w f lm lf e W ls n A (suc j) q =
     let H = W ls n A j (omega arith) in
     let t = hops ls (suc n) j in
-    subst (λ (t : List Hop). Holds t (set mem count x) (set from count f) (count + 1) (bitOr mask (2 ^ x)))
-    (sym (walk-more ls (suc n) j (hop x f) (sym (ap (onFrom ls (suc n) t) (H .counted))
-    ∙ sym (on-mask ls n adj A t mem from count mask H count (le-refl count) (mem-lt ls n adj A j mem from count mask H)) ∙ e)))
-    (holds-step t mem from count mask x f H lm lf (omega (arith, on-lt adj mem mask count (hop x f) e .1)))
+    let b = on-lt adj mem mask count (hop (w .0) f) e in
+    subst (λ (t : List Hop). Holds t (set mem count w) (set from count f) (count + 1) (bitOr mask (2 ^ (w .0 - 1))))
+    (sym (walk-more ls (suc n) j (hop (w .0) f) (sym (ap (onFrom ls (suc n) t) (H .counted))
+    ∙ sym (on-mask ls n adj A t mem from count mask H count (le-refl count) (mem-in ls n adj A j mem from count mask H)) ∙ e)))
+    (holds-step t mem from count mask w f H lm lf (b .0) (b .1))
 
 -- ---- the end: no next stop, or no room for one
 
@@ -267,11 +253,7 @@ full-finished ls n p w t h e = go (onFrom ls (suc n) t (suc (length t))) refl
         let f = on-fresh ls (suc n) t (suc (length t)) (le-refl _) s q in
         absurd (omega (arith, walk-room ls n p w (s ∷ t) (f .0, f .1, f .2, f .3, h)))
 
--- what the function ensures: for every market that the masks are of, the arrays hold its whole walk
-abbrev pub WalkOf : List ℕ → List ℕ → List ℕ → ℕ → ℕ → Type 0
-WalkOf adj mem from count mask = (ls : List Link) (n : ℕ) → Adj ls n adj → Holds (hops ls (suc n) (suc n)) mem from count mask
-
-pub walking-done : (adj mem from : List ℕ) (count mask : ℕ) → 0 < count → onMask adj mem mask count ≡ none → Walking adj mem from count mask → WalkOf adj mem from count mask
+pub walking-done : (adj : List ℕ) (mem : List Member) (from : List ℕ) (count mask : ℕ) → 0 < count → onMask adj mem mask count ≡ none → Walking adj mem from count mask → WalkOf adj mem from count mask
 walking-done adj mem from zero mask p e W ls n A = absurd (omega arith)
 walking-done adj mem from (suc j) mask p e W ls n A =
     let H = W ls n A j refl in
@@ -281,10 +263,10 @@ walking-done adj mem from (suc j) mask p e W ls n A =
     subst (λ (t : List Hop). Holds t mem from (suc j) mask)
     (sym (walk-end ls (suc n) j (omega (arith, walk-room ls n (A .some-member) (A .within) t ok))
     (sym (ap (onFrom ls (suc n) t) (H .counted))
-    ∙ sym (on-mask ls n adj A t mem from (suc j) mask H (suc j) (le-refl (suc j)) (mem-lt ls n adj A j mem from (suc j) mask H)) ∙ e)))
+    ∙ sym (on-mask ls n adj A t mem from (suc j) mask H (suc j) (le-refl (suc j)) (mem-in ls n adj A j mem from (suc j) mask H)) ∙ e)))
     H
 
-pub walking-full : (adj mem from : List ℕ) (count mask : ℕ) → 32 ≤ count → Walking adj mem from count mask → WalkOf adj mem from count mask
+pub walking-full : (adj : List ℕ) (mem : List Member) (from : List ℕ) (count mask : ℕ) → 32 ≤ count → Walking adj mem from count mask → WalkOf adj mem from count mask
 walking-full adj mem from zero mask p W ls n A = absurd (omega arith)
 walking-full adj mem from (suc j) mask p W ls n A =
     let H = W ls n A j refl in

@@ -1,2 +1,5 @@
 pub mod Feeders
 pub mod Laid
+pub mod Sets
+pub mod Parts
+pub mod Walks

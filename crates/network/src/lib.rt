@@ -3,6 +3,10 @@
 use numbers::Member;
 use numbers::Units;
 
+pub mod bits;
+pub mod parts;
+pub mod walk;
+
 // A market's tree by the positions of its walk: position 0 is member 1, and position i the i-th member reached. What stands
 // past the members is 0.
 pub struct Feeder {

@@ -1,5 +1,8 @@
 // Prints of each file that an argument names the walk of its market, or its refusal under 1 to 10.
-use market::Feeder;
+use market::Checked;
+use network::Feeder;
+use numbers::Member;
+use numbers::Units;
 use records::Verdict;
 
 fn refused(number: u8, place: u16) {
@@ -9,43 +12,50 @@ fn refused(number: u8, place: u16) {
     print::number(place as i64);
 }
 
-fn at(row: [u8; 32], i: usize) -> u8 {
+fn member_at(row: [Member; 32], i: usize) -> Member {
+    if i < 32 { row[i] } else { Member(0) }
+}
+
+fn position_at(row: [u8; 32], i: usize) -> u8 {
     if i < 32 { row[i] } else { 0 }
 }
 
-// A member's number is its bit and 1.
-fn member(bit: u8) {
-    let number = bit as u32 + 1;
-    print::number(number as i64);
+fn units_at(row: [Units; 32], i: usize) -> Units {
+    if i < 32 { row[i] } else { Units(0) }
 }
 
 // A member, the member that it was reached from, and the capacity of their link.
-fn reached(bit: u8, from: u8, capacity: u8) {
+fn reached(member: Member, from: Member, capacity: Units) {
     print::text(b" ");
-    member(bit);
+    print::member(member);
     print::text(b"<");
-    member(from);
+    print::member(from);
     print::text(b":");
-    print::number(capacity as i64);
+    print::units(capacity);
 }
 
 fn walk(f: Feeder) {
-    let bit = f.bit;
+    let member = f.member;
     let parent = f.parent;
-    let capacity = f.capacity;
+    let toward = f.toward;
     let n = f.members as usize;
     print::text(b" ");
-    member(bit[0]);
+    print::member(member[0]);
     for i in 1..n {
-        let from = at(parent, i) as usize;
-        reached(at(bit, i), at(bit, from), at(capacity, i));
+        let from = position_at(parent, i) as usize;
+        reached(
+            member_at(member, i),
+            member_at(member, from),
+            units_at(toward, i),
+        );
     }
 }
 
-fn line(f: Feeder) {
-    let verdict = f.verdict;
+fn line(c: Checked) {
+    let verdict = c.verdict;
+    let feeder = c.feeder;
     match verdict {
-        Verdict::Sound => walk(f),
+        Verdict::Sound => walk(feeder),
         Verdict::Refused(number, place) => refused(number, place),
     }
     print::text(b"\n");

@@ -1,6 +1,6 @@
 -- A feeder read by the positions of its walk.
 use mathlib.Core.Path.{_≡_}
-use Prim.Native.Nat.{ℕ, _+_, _≤_, _<_}
+use Prim.Native.Nat.{ℕ, _≤_, _<_}
 use lib.ListN.{getD}
 use lib.IntN.{pos, natAbs}
 use Rattle.numbers.specs.inner.Held.{memberIn, unitsIn}

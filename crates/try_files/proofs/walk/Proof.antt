@@ -5,10 +5,10 @@ use Rattle.try_files.proofs.walk.Statement.{statement}
 use Rattle.try_files.proofs.walk.Tie as tie
 
 abbrev Inv-loop : tie.InvT-loop
-Inv-loop bit parent capacity n i₀ i = Unit {0}
+Inv-loop member parent toward n i₀ i = Unit {0}
 
 abbrev μ-loop : tie.MeasureT-loop
-μ-loop bit parent capacity n i₀ i = n - i
+μ-loop member parent toward n i₀ i = n - i
 
 cast-n : tie.Need-cast-n Inv-loop μ-loop
 cast-n c = search needs
@@ -19,8 +19,8 @@ slice-aggregate-text c = search needs
 text-requires : tie.Need-text-requires Inv-loop μ-loop
 text-requires c κs = search needs
 
-array-read-member : tie.Need-array-read-member Inv-loop μ-loop
-array-read-member c = search needs
+array-copy-out-member : tie.Need-array-copy-out-member Inv-loop μ-loop
+array-copy-out-member c = search needs
 
 member-requires : tie.Need-member-requires Inv-loop μ-loop
 member-requires c κs = search needs
@@ -28,20 +28,20 @@ member-requires c κs = search needs
 loop-holds : tie.Need-loop-holds Inv-loop μ-loop
 loop-holds c = search needs
 
-at-requires : tie.Need-at-requires Inv-loop μ-loop
-at-requires c κs = search needs
+position-at-requires : tie.Need-position-at-requires Inv-loop μ-loop
+position-at-requires c κs = search needs
 
 cast-from : tie.Need-cast-from Inv-loop μ-loop
 cast-from c = search needs
 
-at-requires-2 : tie.Need-at-requires-2 Inv-loop μ-loop
-at-requires-2 c κs = search needs
+member-at-requires : tie.Need-member-at-requires Inv-loop μ-loop
+member-at-requires c κs = search needs
 
-at-requires-3 : tie.Need-at-requires-3 Inv-loop μ-loop
-at-requires-3 c κs = search needs
+member-at-requires-2 : tie.Need-member-at-requires-2 Inv-loop μ-loop
+member-at-requires-2 c κs = search needs
 
-at-requires-4 : tie.Need-at-requires-4 Inv-loop μ-loop
-at-requires-4 c κs = search needs
+units-at-requires : tie.Need-units-at-requires Inv-loop μ-loop
+units-at-requires c κs = search needs
 
 reached-requires : tie.Need-reached-requires Inv-loop μ-loop
 reached-requires c κs = search needs
@@ -61,22 +61,4 @@ returns c = search needs
 pub walk-spec : {M : Type 1} → statement M
 walk-spec =
     tie.close
-    (tie.spec
-    Inv-loop
-    μ-loop
-    cast-n
-    slice-aggregate-text
-    text-requires
-    array-read-member
-    member-requires
-    loop-holds
-    at-requires
-    cast-from
-    at-requires-2
-    at-requires-3
-    at-requires-4
-    reached-requires
-    add-i
-    loop-less
-    loop-again
-    returns)
+    (tie.spec Inv-loop μ-loop cast-n slice-aggregate-text text-requires array-copy-out-member member-requires loop-holds position-at-requires cast-from member-at-requires member-at-requires-2 units-at-requires reached-requires add-i loop-less loop-again returns)

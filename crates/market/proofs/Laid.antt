@@ -1,0 +1,97 @@
+-- The feeder of a market on a tree is sound; so is that of a file that passes refusals 1 to 10. Assumes nothing.
+use mathlib.Core.Path.{_≡_, refl, sym, ap, ap₂, _∙_, subst}
+use mathlib.Core.Logic.{_⊎_, inl, inr}
+use mathlib.Core.Bool.{Bool, true, false, cond}
+use mathlib.Core.List.{List, [], _∷_}
+use mathlib.Core.Option.{none}
+use Prim.Native.Nat.{ℕ, suc, _≤_, _<_}
+use native.Mathlib.Omega.{arith}
+use lib.Dec.{ltb}
+use lib.IntN.{pos, natAbs}
+use lib.ListN.{getD}
+use borrow.Author.Tests.{ltb-true, ltb-false}
+use Rattle.numbers.specs.declared.Member.{Member}
+use Rattle.numbers.specs.declared.Units.{Units}
+use Rattle.numbers.specs.inner.Held.{member, units, unitsIn}
+use Rattle.problem.specs.Problem.{Link, Market, joins, walk}
+use Rattle.problem.proofs.Tree.{Within, Tree}
+use Rattle.problem.proofs.Links.{Ends, joins-ends}
+use Rattle.problem.proofs.Count.{either}
+use Rattle.problem.proofs.Steps.{walk-walked, pos-one}
+use Rattle.problem.proofs.Arrange.{stops, parent, member-in, rising}
+use Rattle.problem.proofs.Arrange as arrange
+use Rattle.network.specs.inner.Feeders.{Sound, memberAt, parentAt}
+use Rattle.records.specs.Market.{marketOf}
+use Rattle.market.specs.Refusals.{faultOf}
+use Rattle.market.specs.inner.Feeders.{reachedAt, reachedFrom, capacityOf, places, laidOut, feederOf}
+use Rattle.market.proofs.Top.{market-few}
+use Rattle.market.proofs.LinkRecords.{capacity-small}
+use Rattle.market.proofs.Filled.{places-held, places-blank}
+use Rattle.market.proofs.Trees.{from-le, full, member-at, from-at, parent-at, capacity-back}
+use Rattle.market.proofs.Sound.{sound-tree}
+
+-- no link joins a member to itself
+alone : (n : ℕ) (ls : List Link) → Within n ls → (u : ℕ) → capacityOf ls u u ≡ 0
+unfolding capacityOf
+alone n [] w u = refl
+alone n (l ∷ ls) w u = go (joins l u u) refl (alone n ls (w .1) u)
+  where
+    two-ends : Ends l u u → ⊥
+    two-ends (inl p) = omega (arith, w .0 .1, p .0, p .1)
+    two-ends (inr p) = omega (arith, w .0 .1, p .0, p .1)
+
+    go : (b : Bool) → joins l u u ≡ b → capacityOf ls u u ≡ 0 → cond b (l .capacity) (capacityOf ls u u) ≡ 0
+    go true t ih = absurd (two-ends (joins-ends l u u t))
+    go false t ih = ih
+
+-- a place holds what is laid there, or lies past the end
+held-or : {A : Type 0} (x : A) (n : ℕ) (f : ℕ → A) (P : A → Type 0) (i : ℕ) → n ≤ 32 → (i < n → P (f i)) → (n ≤ i → P x) → P (getD (places x 32 n f) i x)
+held-or x n f P i few a b = go (either (ltb i n))
+  where
+    go : (ltb i n ≡ true) ⊎ (ltb i n ≡ false) → P (getD (places x 32 n f) i x)
+    go (inl e) = let l : i < n = ltb-true i n e in subst P (sym (places-held x 32 n f i (omega arith) l)) (a l)
+    go (inr e) = let l : n ≤ i = ltb-false i n e in subst P (sym (places-blank x 32 n f i l)) (b l)
+
+module _ (m : Market) (R : Tree m) (few : m .members ≤ 32) (small : (u v : ℕ) → capacityOf (m .links) u v ≤ 40) where
+  at : (i : ℕ) → i < m .members → memberAt (feederOf m) i ≡ arrange.member m i
+  unfolding feederOf laidOut
+  at i l = ap (λ (u : Member). u .0) (places-held (member 0) 32 (m .members) (λ k. member (reachedAt (walk m) k)) i (omega arith) l) ∙ member-at m R i
+
+  rises : (i : ℕ) → 1 ≤ i → parentAt (feederOf m) i < i
+  unfolding feederOf laidOut
+  rises i p = held-or 0 (m .members) _ (λ x. x < i) i few (λ l. omega (arith, parent-at m R i l, rising m R i p)) (λ l. p)
+
+  -- what a link carries, one way or the other
+  Carries : Units → Type 0
+  Carries u = (u .0 ≡ pos (natAbs (u .0))) × (natAbs (u .0) ≤ 40)
+
+  carries : (g : ℕ → ℕ) → ((i : ℕ) → g i ≤ 40) → (i : ℕ) → Carries (getD (places (units (pos 0)) 32 (m .members) (λ k. units (pos (g k)))) i (units (pos 0)))
+  unfolding Carries
+  carries g h i = held-or (units (pos 0)) (m .members) _ Carries i few (λ l. (refl, h i)) (λ l. (refl, omega arith))
+
+  at-first : capacityOf (m .links) (reachedAt (walk m) 0) (reachedFrom (walk m) 0) ≡ 0
+  at-first =
+      let from : parent m 0 ≡ 0 = omega (arith, from-le (m .links) (suc (m .members)) (stops m) (walk-walked (m .links) (suc (m .members)) (suc (m .members))) 0) in
+      ap₂ (capacityOf (m .links)) (member-at m R 0) (from-at m R 0 (R .some-member) ∙ ap (arrange.member m) from) ∙ alone (m .members) (m .links) (R .within) (arrange.member m 0)
+
+  nothing-first : (g : ℕ → ℕ) → g 0 ≡ 0 → natAbs (unitsIn (places (units (pos 0)) 32 (m .members) (λ k. units (pos (g k)))) 0) ≡ 0
+  nothing-first g e = held-or (units (pos 0)) (m .members) _ (λ u. natAbs (u .0) ≡ 0) 0 few (λ l. e) (λ l. refl)
+
+  pub feeder-sound : Sound (feederOf m)
+  unfolding feederOf laidOut Carries
+  feeder-sound = record {
+    some = R .some-member;
+    few = few;
+    known = λ i l. let b = member-in m R i in (omega (arith, at i l, b .0), omega (arith, at i l, b .1));
+    apart = λ i k li lk e.
+        pos-one (m .links) (suc (m .members)) (stops m) (walk-walked (m .links) (suc (m .members)) (suc (m .members))) i k (omega (arith, full m R)) (omega (arith, full m R))
+        (sym (at i li) ∙ e ∙ at k lk);
+    rising = rises;
+    first = (nothing-first _ at-first, nothing-first _ (capacity-back (m .links) _ _ ∙ at-first));
+    toward = carries _ (λ i. small _ _);
+    away = carries _ (λ i. small _ _);
+  }
+
+pub file-sound : (f : List ℕ) → faultOf f ≡ none → Sound (feederOf (marketOf f))
+unfolding marketOf
+file-sound f e = feeder-sound (marketOf f) (sound-tree f e) (market-few f) (capacity-small f)
