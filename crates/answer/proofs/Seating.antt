@@ -25,7 +25,7 @@ module _ {f : Feeder} (s : Sound f) where
   seating-none = record {
     long = length-replicate {A = ℕ} 32 0;
     at = λ k l. absurd (omega arith);
-    inside = λ j. omega (arith, blank-none 32 0 j (omega arith), s .some);
+    inside = λ j. omega (arith, blank-none {A = ℕ} 0 32 0 j (omega arith), s .some);
   }
 
   pub seating-more : {place : List ℕ} {i : ℕ} → Seating f place i → i < f .members → Seating f (set place (memberAt f i - 1) i) (i + 1)

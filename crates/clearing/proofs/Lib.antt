@@ -1,2 +1,7 @@
 pub mod Agree
 pub mod Solved
+pub mod Refused
+pub mod One
+pub mod Allowed
+pub mod Starred
+pub mod Shams

@@ -1,13 +1,19 @@
--- Refusals 1 to 11: the first that applies, or none. Assumes nothing.
-use mathlib.Core.Path.{_≡_}
+-- Refusals 1 to 11: the first that applies, or none, and what is held of a file that passes. Assumes nothing.
+use mathlib.Core.Path.{_≡_, refl, sym, ap, _∙_, subst}
 use mathlib.Core.List.{List}
-use mathlib.Core.Option.{none, some}
+use mathlib.Core.Option.{Option, none, some}
 use Prim.Native.Nat.{ℕ, _*_, _≤_, _<_}
 use borrow.Author.Tests.{lt-ltb, le-ltb}
 use Rattle.records.specs.Refusals.{Refusal, refusal, _otherwise_, placeIf}
 use Rattle.records.specs.Market.{marketOf}
+use Rattle.records.specs.inner.Cases.{verdictOf}
+use Rattle.network.specs.inner.Laid.{Laid}
 use Rattle.market.specs.Refusals.{faultOf}
+use Rattle.market.specs.inner.Feeders.{feederOf, checked, checkedOf}
+use Rattle.market.specs.declared.Checked.{Checked}
+use Rattle.market.proofs.Laid.{file-laid}
 use Rattle.clearing.specs.Promise.{tooShort, refusalOf}
+use Rattle.clearing.specs.inner.Words.{Held}
 
 -- nothing is refused where the area has room
 pub room-none : (f : List ℕ) (room : ℕ) → faultOf f ≡ none → 16 * marketOf f .members ≤ room → refusalOf f room ≡ none
@@ -22,3 +28,20 @@ fault-refused f room r e = rw e
 pub short-refused : (f : List ℕ) (room : ℕ) → faultOf f ≡ none → room < 16 * marketOf f .members → refusalOf f room ≡ some (record { number = 11; place = 16 * marketOf f .members })
 unfolding refusalOf tooShort placeIf refusal _otherwise_
 short-refused f room e l = rw (e, lt-ltb room (16 * marketOf f .members) l)
+
+-- what the market's checks say of the file
+module _ (f : List ℕ) (c : Checked) (is : c ≡ checkedOf f) where
+  pub checked-verdict : c .verdict ≡ verdictOf (faultOf f)
+  unfolding checkedOf checked
+  checked-verdict = ap (λ (x : Checked). x .verdict) is ∙ go (faultOf f)
+    where
+      go : (o : Option Refusal) → checked (marketOf f) o .verdict ≡ verdictOf o
+      go none = refl
+      go (some r) = refl
+
+  -- a file that passes is held as its market's feeder
+  pub checked-held : faultOf f ≡ none → Held (marketOf f) (c .feeder) f
+  unfolding checkedOf checked marketOf
+  checked-held e =
+      let g : c .feeder ≡ feederOf (marketOf f) = ap (λ (x : Checked). x .feeder) (is ∙ ap (checked (marketOf f)) e) in
+      record { laid = subst (Laid (marketOf f)) (sym g) (file-laid f e); tables = refl }

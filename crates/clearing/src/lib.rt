@@ -5,8 +5,10 @@ ghost use Prim.Native.Nat.{_*_, _≤_};
 ghost use lib.ListN.{length};
 ghost use Rattle.problem.specs.Problem.{Market};
 ghost use Rattle.clearing.specs.Outcome.{code, Outcome};
+ghost use Rattle.clearing.specs.Promise.{Result};
 ghost use Rattle.clearing.specs.inner.Words.{Held};
 use network::Feeder;
+use records::Verdict;
 
 // The number that a refusal returns.
 fn refusal(number: u8, place: u16) -> u64
@@ -30,4 +32,21 @@ fn allocate(records: &[u8], feeder: Feeder, answer: &mut [u8]) -> u64
     let sent = solution.sent;
     answer::write(records, feeder, net, sent, total, answer);
     16 * (feeder.members as u64)
+}
+
+// Clears the market of a file into the answer area.
+pub fn clear(file: &[u8], answer: &mut [u8]) -> u64
+    ensures { λ r. ⌜ Result (now (file .entry)) (now (answer .entry)) r (now (answer .exit)) ⌝ }
+{
+    let checked = market::market(file);
+    let verdict = checked.verdict;
+    if let Verdict::Refused(number, place) = verdict {
+        return refusal(number, place);
+    }
+    let feeder = checked.feeder;
+    let size = 16 * (feeder.members as usize);
+    if answer.len() < size {
+        return refusal(11, size as u16);
+    }
+    allocate(file, feeder, answer)
 }

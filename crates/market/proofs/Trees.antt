@@ -104,7 +104,7 @@ module _ (ls : List Link) (n : ℕ) where
       omega arith))
 
 -- the capacity of the first link between u and v
-capacity-place : (ls : List Link) (u v : ℕ) → capacityOf ls u v ≡ linkAt ls (placeOf ls u v) .capacity
+pub capacity-place : (ls : List Link) (u v : ℕ) → capacityOf ls u v ≡ linkAt ls (placeOf ls u v) .capacity
 unfolding capacityOf placeOf
 capacity-place [] u v = refl
 capacity-place (l ∷ ls) u v = go (joins l u v) (capacity-place ls u v)
