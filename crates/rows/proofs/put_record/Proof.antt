@@ -78,7 +78,7 @@ slice-write-row c = search needs
 same-length : tie.Need-same-length
 same-length c = search needs
 
--- at the record's place y the row next has the higher of the two
+-- the row, the record's place y in it, and its cell: at y the row next has the higher of the two
 abbrev row : tie.Else2 → List ℕ
 row k = k .before .before .before .before .before .before .before .args .row .now
 
