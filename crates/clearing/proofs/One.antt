@@ -39,8 +39,8 @@ one-outcome {m} {before} R (cleared ys t h) (cleared zs u k) =
 -- no two results are allowed for one input
 pub only-one : {file before : List ℕ} {r r′ : ℕ} {a a′ : List ℕ} → Result file before r a → Result file before r′ a′ → (r ≡ r′) × (a ≡ a′)
 only-one (refused f e) (refused g k) = (ap code (Option·some-injective _ _ (sym e ∙ k)), refl)
-only-one (refused f e) (settled k o) = absurd (Option·none-ne-some (sym k ∙ e))
-only-one (settled e o) (refused g k) = absurd (Option·none-ne-some (sym e ∙ k))
+only-one (refused f e) (settled k o) = absurd (Option·none-ne-some _ (sym k ∙ e))
+only-one (settled e o) (refused g k) = absurd (Option·none-ne-some _ (sym e ∙ k))
 only-one {file} {before} (settled e o) (settled k p) = one-outcome (tree-if file (length before) e) o p
 
 -- the nets of a market that is not refused add to zero, whatever the flows

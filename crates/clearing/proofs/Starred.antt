@@ -51,16 +51,37 @@ neg n = negℤ (pos n)
 -- the claim
 pub all-right : AllRight starred
 unfolding starred W.bytes W.chain W.A W.B W.C W.D W.E W.F W.G W.H W.I W.J W.K neg S.best S.nothing S.inRange S.isTotal S.noTotal S.allFlows S.allIn S.judge S.lexLe N.eqZ N.within B.linkOf B.offerOf B.entryAt B.entriesFrom B.entries R.refusal R._otherwise_ R.placeIf R.tooLong R.notWhole R.faulty R.unsound M.membersOf M.linksOf M.offersOf M.marketOf P.bought P.sold P.net P.higher P.value P.plus P.totalTo P.total P.lowest P.joined P.branch P.walk P.sent P.upwards P.upward P.load A.low16 A.low32 A.orZero A.each A.memberBytes A.memberRecord A.linkRecord A.between A.totalRecord A.answerOf F.lowestMember F.firstRecord F.offersBy F.noOffer F.without F.tooMany F.closes F.apart F.faultOf
-all-right =
-    (clears W.A 3 (pos 2 ∷ pos 2 ∷ []) (pos 80) (omega arith) refl refl refl refl refl refl,
-    (clears W.B 3 (pos 3 ∷ pos 3 ∷ []) (pos 120) (omega arith) refl refl refl refl refl refl,
-    (clears W.C 1 [] (pos 0) (omega arith) refl refl refl refl refl refl,
-    (fails W.D 1 (omega arith) refl refl refl refl refl,
-    (clears W.E 1 [] (neg 40) (omega arith) refl refl refl refl refl refl,
-    (clears W.F 2 (pos 0 ∷ []) (pos 0) (omega arith) refl refl refl refl refl refl,
-    (clears W.G 3 (pos 0 ∷ neg 1 ∷ []) (pos 40) (omega arith) refl refl refl refl refl refl,
-    (clears W.H 2 (neg 1 ∷ []) (neg 4) (omega arith) refl refl refl refl refl refl,
-    (fails W.I 2 (omega arith) refl refl refl refl refl,
-    (clears W.J 3 (pos 2 ∷ pos 2 ∷ []) (pos 20) (omega arith) refl refl refl refl refl refl,
-    (clears W.K 2 (pos 2 ∷ []) (pos 90) (omega arith) refl refl refl refl refl refl,
-    tt)))))))))))
+all-right = (
+  clears W.A 3 (pos 2 ∷ pos 2 ∷ []) (pos 80) (omega arith) refl refl refl refl refl refl,
+  (
+    clears W.B 3 (pos 3 ∷ pos 3 ∷ []) (pos 120) (omega arith) refl refl refl refl refl refl,
+    (
+      clears W.C 1 [] (pos 0) (omega arith) refl refl refl refl refl refl,
+      (
+        fails W.D 1 (omega arith) refl refl refl refl refl,
+        (
+          clears W.E 1 [] (neg 40) (omega arith) refl refl refl refl refl refl,
+          (
+            clears W.F 2 (pos 0 ∷ []) (pos 0) (omega arith) refl refl refl refl refl refl,
+            (
+              clears W.G 3 (pos 0 ∷ neg 1 ∷ []) (pos 40) (omega arith) refl refl refl refl refl refl,
+              (
+                clears W.H 2 (neg 1 ∷ []) (neg 4) (omega arith) refl refl refl refl refl refl,
+                (
+                  fails W.I 2 (omega arith) refl refl refl refl refl,
+                  (
+                    clears W.J 3 (pos 2 ∷ pos 2 ∷ []) (pos 20) (omega arith) refl refl refl refl refl refl,
+                    (
+                      clears W.K 2 (pos 2 ∷ []) (pos 90) (omega arith) refl refl refl refl refl refl,
+                      tt,
+                    ),
+                  ),
+                ),
+              ),
+            ),
+          ),
+        ),
+      ),
+    ),
+  ),
+)

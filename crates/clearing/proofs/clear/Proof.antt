@@ -64,16 +64,29 @@ refusal-requires-2 : tie.Need-refusal-requires-2
 refusal-requires-2 c κs = search needs
 
 returns-2 : tie.Need-returns-2
-returns-2 c = ?
+unfolding file
+returns-2 c =
+    let t = c .before .before .before .before in
+    let f : List ℕ = file (t .before .before) in
+    let area : List ℕ = t .before .before .before .before .before .args .answer .now in
+    let q : 16 * t .before .before .market .result .feeder .members ≡ 16 * marketOf f .members = omega (arith, held t .laid .members) in
+    subst (λ (k : ℕ). Result f area k area) (sym (c .refusal2 .ensures ∙ ap (λ (p : ℕ). code (record { number = 11; place = p })) q))
+    (refused _ (short-refused f (length area) (sound t) (omega (arith, q, c .before .if1 .taken))))
 
 allocate-requires : tie.Need-allocate-requires
-allocate-requires c κs = ?
+unfolding file
+allocate-requires c κs = ((_, held (c .before .before .before .before)), c .before .if1 .left)
 
 same-length : tie.Need-same-length
 same-length c = search needs
 
 returns-3 : tie.Need-returns-3
-returns-3 c = ?
+unfolding file
+returns-3 c =
+    let t = c .before .before .before .before .before .before .before in
+    let f : List ℕ = file (t .before .before) in
+    let q : 16 * t .before .before .market .result .feeder .members ≡ 16 * marketOf f .members = omega (arith, held t .laid .members) in
+    settled (room-none f _ (sound t) (omega (arith, q, c .before .before .before .before .if1 .left))) (c .before .before .allocate .ensures _ (held t))
 
 pub clear-spec : {M : Type 1} → statement M
 clear-spec =
