@@ -66,12 +66,5 @@ returns c =
 pub own-cells-spec : {M : Type 1} → statement M
 own-cells-spec =
     tie.close
-    (tie.spec
-    top-requires
-    element-copy-out-own-row
-    size-requires
-    slice-relend-prefix-own-row
-    slice-aggregate-own-row
-    own-row-requires
-    same-length
+    (tie.spec top-requires element-copy-out-own-row size-requires slice-relend-prefix-own-row slice-aggregate-own-row own-row-requires same-length
     returns)
