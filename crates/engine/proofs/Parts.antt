@@ -12,11 +12,11 @@ use Rattle.rows.specs.inner.Rows.{meets, Combined}
 use Rattle.engine.specs.inner.Words.{slotOf, meet, Taken}
 
 -- ---- the part of a list from a on, of n places
-abbrev pub partOf : List ℕ → ℕ → ℕ → List ℕ
+abbrev partOf : List ℕ → ℕ → ℕ → List ℕ
 partOf xs a n = take n (drop a xs)
 
 -- the list that ys came back to
-abbrev pub putAt : List ℕ → ℕ → ℕ → List ℕ → List ℕ
+abbrev putAt : List ℕ → ℕ → ℕ → List ℕ → List ℕ
 putAt xs a n ys = take a xs ++ (ys ++ drop n (drop a xs))
 
 part-at : (xs : List ℕ) (a n x : ℕ) → x < n → getD (partOf xs a n) x 0 ≡ getD xs (a + x) 0
@@ -34,7 +34,7 @@ module _ (xs ys : List ℕ) (a n : ℕ) (fits : a + n ≤ length xs) (size : len
   len : length (take a xs) ≡ a
   len = length-take-le a xs (omega arith)
 
-  pub put-in : (x : ℕ) → x < n → getD (putAt xs a n ys) (a + x) 0 ≡ getD ys x 0
+  put-in : (x : ℕ) → x < n → getD (putAt xs a n ys) (a + x) 0 ≡ getD ys x 0
   put-in x l =
       let q : a + x - a ≡ x = omega arith in
       past (take a xs) (ys ++ drop n (drop a xs)) a (a + x) len (omega arith)
@@ -43,7 +43,7 @@ module _ (xs ys : List ℕ) (a n : ℕ) (fits : a + n ≤ length xs) (size : len
   put-before : (j : ℕ) → j < a → getD (putAt xs a n ys) j 0 ≡ getD xs j 0
   put-before j l = List·getD-append (take a xs) (ys ++ drop n (drop a xs)) 0 j (rw len l) ∙ getD-take a xs j 0 l
 
-  pub put-after : (j : ℕ) → a + n ≤ j → getD (putAt xs a n ys) j 0 ≡ getD xs j 0
+  put-after : (j : ℕ) → a + n ≤ j → getD (putAt xs a n ys) j 0 ≡ getD xs j 0
   put-after j l =
       let q : a + (n + (j - a - n)) ≡ j = omega arith in
       past (take a xs) (ys ++ drop n (drop a xs)) a j len (omega arith)
