@@ -12,11 +12,11 @@ use Rattle.rows.specs.inner.Rows.{meets, Combined}
 use Rattle.engine.specs.inner.Words.{slotOf, meet, Taken}
 
 -- ---- the part of a list from a on, of n places
-abbrev pub partOf : List ℕ → ℕ → ℕ → List ℕ
+abbrev partOf : List ℕ → ℕ → ℕ → List ℕ
 partOf xs a n = take n (drop a xs)
 
 -- the list that ys came back to
-abbrev pub putAt : List ℕ → ℕ → ℕ → List ℕ → List ℕ
+abbrev putAt : List ℕ → ℕ → ℕ → List ℕ → List ℕ
 putAt xs a n ys = take a xs ++ (ys ++ drop n (drop a xs))
 
 part-at : (xs : List ℕ) (a n x : ℕ) → x < n → getD (partOf xs a n) x 0 ≡ getD xs (a + x) 0
@@ -34,7 +34,7 @@ module _ (xs ys : List ℕ) (a n : ℕ) (fits : a + n ≤ length xs) (size : len
   len : length (take a xs) ≡ a
   len = length-take-le a xs (omega arith)
 
-  pub put-in : (x : ℕ) → x < n → getD (putAt xs a n ys) (a + x) 0 ≡ getD ys x 0
+  put-in : (x : ℕ) → x < n → getD (putAt xs a n ys) (a + x) 0 ≡ getD ys x 0
   put-in x l =
       let q : a + x - a ≡ x = omega arith in
       past (take a xs) (ys ++ drop n (drop a xs)) a (a + x) len (omega arith)
@@ -43,7 +43,7 @@ module _ (xs ys : List ℕ) (a n : ℕ) (fits : a + n ≤ length xs) (size : len
   put-before : (j : ℕ) → j < a → getD (putAt xs a n ys) j 0 ≡ getD xs j 0
   put-before j l = List·getD-append (take a xs) (ys ++ drop n (drop a xs)) 0 j (rw len l) ∙ getD-take a xs j 0 l
 
-  pub put-after : (j : ℕ) → a + n ≤ j → getD (putAt xs a n ys) j 0 ≡ getD xs j 0
+  put-after : (j : ℕ) → a + n ≤ j → getD (putAt xs a n ys) j 0 ≡ getD xs j 0
   put-after j l =
       let q : a + (n + (j - a - n)) ≡ j = omega arith in
       past (take a xs) (ys ++ drop n (drop a xs)) a j len (omega arith)
@@ -79,18 +79,23 @@ module _ (msgs row store : List ℕ) (i w len c : ℕ) (cs : c ≡ slotOf i) (lm
   room = omega arith
 
   -- how long the parts are
-  pub lengths : (length msg ≡ suc w) × (length (take len row) ≡ len) × (length (partOf store c (c + (len - w) - c)) ≡ len - w)
+  lengths : (length msg ≡ suc w) × (length (take len row) ≡ len) × (length (partOf store c (c + (len - w) - c)) ≡ len - w)
   lengths = (rw count (length-part msgs (i * 81) (suc w) (omega arith)), length-take-le len row lr, rw room (length-part store c (len - w) ls))
 
   msg-at : (p : ℕ) → p ≤ w → getD msg p 0 ≡ getD msgs (i * 81 + p) 0
   msg-at p l = part-at msgs (i * 81) (i * 81 + w + 1 - i * 81) p (omega arith)
 
-  -- their cells are small
-  pub smalls : ((p : ℕ) → p ≤ w → getD msgs (i * 81 + p) 0 < 2 ^ 31) → ((x : ℕ) → x < len → getD row x 0 < 2 ^ 31)
-      → ((y : ℕ) → y < length (take len row) → getD (take len row) y 0 < 2 ^ 31) × ((p : ℕ) → p < length msg → getD msg p 0 < 2 ^ 31)
-  smalls hm hr =
-      let l = lengths in
-      ((λ y d. rw (getD-take len row y 0 (omega (arith, l .1))) (hr y (omega (arith, l .1)))), (λ p d. rw (msg-at p (omega (arith, l .0))) (hm p (omega (arith, l .0)))))
+  pub combine-asks : w ≤ 80 → len ≤ 2481 → ((p : ℕ) → p ≤ w → getD msgs (i * 81 + p) 0 < 2 ^ 31) → ((x : ℕ) → x < len → getD row x 0 < 2 ^ 31)
+      → ((1 ≤ length msg) × (length msg ≤ 81) × (length msg ≤ length (take len row)) × (length (take len row) + 1 ≤ length (partOf store c (c + (len - w) - c)) + length msg) × (length (take len row) ≤ 2481))
+      × (((y : ℕ) → y < length (take len row) → getD (take len row) y 0 < 2 ^ 31) × ((p : ℕ) → p < length msg → getD msg p 0 < 2 ^ 31))
+  combine-asks hw hl hm hr =
+      let l = lengths in (
+        (omega arith, omega arith, omega arith, omega arith, omega arith),
+        (
+          (λ y d. rw (getD-take len row y 0 (omega (arith, l .1))) (hr y (omega (arith, l .1)))),
+          (λ p d. rw (msg-at p (omega (arith, l .0))) (hm p (omega (arith, l .0)))),
+        ),
+      )
 
   same : (x : ℕ) → x < len - w → (p : ℕ) → p ≤ w → meets (take len row) msg x p ≡ meet msgs row i w x p
   unfolding meets

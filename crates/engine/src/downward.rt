@@ -1,5 +1,6 @@
 // Choices come down the walk, the first position first: each link's choice is read where its parent's index points, and
-// the choices make what each member buys and sends.
+// the choices make what each member buys and sends. `choose` promises the choices of elimination, and `settle` the nets
+// and flows that they make.
 ghost use mathlib.Core.Path.{_≡_};
 ghost use Prim.Native.Nat.{ℕ, _≤_, _<_};
 ghost use lib.IntN.{pos, _-ℤ_};
@@ -30,14 +31,14 @@ pub fn choose(feeder: Feeder, choices: &[u8]) -> Chosen
     let mut index = [0usize; 32];
     let mut i: usize = 1;
     while i < n {
-        let q = wide(feeder.parent[i]);
-        let x = index[q];
+        let parent = wide(feeder.parent[i]);
+        let x = index[parent];
         let at = slot(i) + x;
         let c = choices[at];
         choice[i] = c;
         let p = wide(c);
         let w = width(feeder, i);
-        index[q] = x + (w - p);
+        index[parent] = x + (w - p);
         index[i] = p;
         i += 1;
     }
@@ -58,9 +59,9 @@ fn sent_of(feeder: Feeder, i: usize, choice: u8) -> Units
     requires { ⌜ Sound feeder × (i < 32) ⌝ }
     ensures { λ r. ⌜ r .0 ≡ pos choice -ℤ pos (awayAt feeder i) ⌝ }
 {
-    let c = Units::of(choice as u16);
-    let a = feeder.away[i];
-    c.minus(a)
+    let flow = Units::of(choice as u16);
+    let away = feeder.away[i];
+    flow.minus(away)
 }
 
 // What the choices make, beside the cell of the best total.

@@ -1,6 +1,6 @@
 // The best choices on a tree of tables: the cell of the highest total, and what each member buys and sends with it. The
 // tree is one value, a feeder by the positions of its walk; the tables are records. Messages go up the walk, choices come
-// down it.
+// down it. `solve` promises the best total, and the first of the choices that make it.
 ghost use Rattle.network.specs.inner.Feeders.{Sound};
 ghost use Rattle.records.specs.Records.{entries};
 ghost use Rattle.records.specs.Market.{offersOf};

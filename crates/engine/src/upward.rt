@@ -1,5 +1,6 @@
 // Messages go up the walk, the last position first: each member's own row takes in its children's messages, and what is
-// left of it is the member's own message. The choice that each cell was made by is kept on the way.
+// left of it is the member's own message. The choice that each cell was made by is kept on the way. `upward` promises that
+// the stores hold what elimination makes of the feeder and the tables.
 ghost use mathlib.Core.Path.{_≡_};
 ghost use Prim.Native.Nat.{ℕ, _+_, _-_, _*_, _≤_, _<_, _^_};
 ghost use lib.IntN.{pos, natAbs};
@@ -13,13 +14,14 @@ use network::Feeder;
 use numbers::Units;
 use rows;
 
+// A byte as a place.
 pub fn wide(x: u8) -> usize
     ensures { λ r. ⌜ r ≡ x ⌝ }
 {
     x as usize
 }
 
-// How many units a count of them is.
+// So many units, as a number of cells.
 fn count(units: Units) -> usize
     ensures { λ r. ⌜ r ≡ natAbs (units .0) ⌝ }
 {

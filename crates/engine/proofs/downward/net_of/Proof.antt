@@ -27,10 +27,4 @@ returns c = c .minus .ensures ∙ ap₂ _-ℤ_ (c .before .before .top .ensures)
 
 pub net-of-spec : {M : Type 1} → statement M
 net-of-spec =
-    tie.close
-    (tie.spec
-    top-requires
-    cast-of
-    of-requires
-    minus-requires
-    returns)
+    tie.close (tie.spec top-requires cast-of of-requires minus-requires returns)

@@ -10,11 +10,11 @@ use Rattle.engine.proofs.downward.sent_of.Tie as tie
 of-requires : tie.Need-of-requires
 of-requires c κs = search needs
 
-mul-a : tie.Need-mul-a
-mul-a c = search needs
+mul-away : tie.Need-mul-away
+mul-away c = search needs
 
-element-copy-out-a : tie.Need-element-copy-out-a
-element-copy-out-a c = search needs
+element-copy-out-away : tie.Need-element-copy-out-away
+element-copy-out-away c = search needs
 
 minus-requires : tie.Need-minus-requires
 minus-requires c κs =
@@ -29,10 +29,4 @@ returns c =
 
 pub sent-of-spec : {M : Type 1} → statement M
 sent-of-spec =
-    tie.close
-    (tie.spec
-    of-requires
-    mul-a
-    element-copy-out-a
-    minus-requires
-    returns)
+    tie.close (tie.spec of-requires mul-away element-copy-out-away minus-requires returns)

@@ -55,11 +55,4 @@ returns c =
 pub own-cells-spec : {M : Type 1} → statement M
 own-cells-spec =
     tie.close
-    (tie.spec
-    top-requires
-    element-copy-out-own-row
-    slice-relend-prefix-own-row
-    slice-aggregate-own-row
-    own-row-requires
-    same-length
-    returns)
+    (tie.spec top-requires element-copy-out-own-row slice-relend-prefix-own-row slice-aggregate-own-row own-row-requires same-length returns)

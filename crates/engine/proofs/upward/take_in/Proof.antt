@@ -5,7 +5,7 @@ use mathlib.Core.Path.{sym}
 use Prim.Native.Nat.{_+_, _-_, _≤_}
 use lib.Seq.{length-take-le}
 use Rattle.engine.proofs.Slots.{slot-end}
-use Rattle.engine.proofs.Parts.{lengths, smalls, taken-law}
+use Rattle.engine.proofs.Parts.{combine-asks, taken-law}
 use Rattle.engine.proofs.upward.take_in.Statement.{statement}
 use Rattle.engine.proofs.upward.take_in.Tie as tie
 
@@ -63,12 +63,11 @@ part-combine-end-2 c = omega (arith, room (c .before .before))
 combine-requires : tie.Need-combine-requires
 combine-requires c κs =
     let s = c .before .before .before in
-    let start = s .before .before .before .before in
-    let a = start .args in
-    let p = start .pre in
+    let st = s .before .before .before .before in
+    let a = st .args in
     let r : s .slot .result + (a .len - a .w) ≤ 37231 = room s in
-    let l = lengths (a .messages .now) (a .row .now) (a .choices .now) (a .i) (a .w) (a .len) (s .slot .result) (s .slot .ensures) (omega arith) (omega arith) (omega arith) (omega arith) in
-    ((omega arith, omega arith, omega arith, omega arith, omega arith), smalls (a .messages .now) (a .row .now) (a .choices .now) (a .i) (a .w) (a .len) (s .slot .result) (s .slot .ensures) (omega arith) (omega arith) (omega arith) (omega arith) (p .1 .1 .0) (p .1 .1 .1))
+    combine-asks (a .messages .now) (a .row .now) (a .choices .now) (a .i) (a .w) (a .len) (s .slot .result) (s .slot .ensures)
+    (omega arith) (omega arith) (omega arith) (omega arith) (omega arith) (omega arith) (st .pre .1 .1 .0) (st .pre .1 .1 .1)
 
 same-length : tie.Need-same-length
 same-length c = search needs
@@ -82,28 +81,11 @@ returns c =
     let a = s .before .before .before .before .args in
     let r : s .slot .result + (a .len - a .w) ≤ 37231 = room s in
     let m = c .before .before .before .before .combine in
-    taken-law (a .messages .now) (a .row .now) (a .choices .now) (a .i) (a .w) (a .len) (s .slot .result) (s .slot .ensures) (omega arith) (omega arith) (omega arith) (omega arith) _ _ _ (m .kept .0) (m .kept .1 .1 .0) (m .ensures)
+    taken-law (a .messages .now) (a .row .now) (a .choices .now) (a .i) (a .w) (a .len) (s .slot .result) (s .slot .ensures)
+    (omega arith) (omega arith) (omega arith) (omega arith) _ _ _ (m .kept .0) (m .kept .1 .1 .0) (m .ensures)
 
 pub take-in-spec : {M : Type 1} → statement M
 take-in-spec =
     tie.close
-    (tie.spec
-    mul-a
-    add-e
-    add-e-2
-    slot-requires
-    sub-d
-    add-d
-    slice-relend-prefix-combine
-    slice-aggregate-combine
-    mul-combine
-    sub-combine
-    part-combine-start
-    part-combine-end
-    sub-combine-2
-    part-combine-start-2
-    part-combine-end-2
-    combine-requires
-    same-length
-    same-length-2
-    returns)
+    (tie.spec mul-a add-e add-e-2 slot-requires sub-d add-d slice-relend-prefix-combine slice-aggregate-combine mul-combine sub-combine
+    part-combine-start part-combine-end sub-combine-2 part-combine-start-2 part-combine-end-2 combine-requires same-length same-length-2 returns)

@@ -71,16 +71,4 @@ returns c =
 pub upward-spec : {M : Type 1} → statement M
 upward-spec =
     tie.close
-    (tie.spec
-    Inv-loop
-    μ-loop
-    wide-requires
-    loop-holds
-    sub-v
-    member-requires
-    loop-less
-    loop-again
-    same-length
-    same-length-2
-    same-length-3
-    returns)
+    (tie.spec Inv-loop μ-loop wide-requires loop-holds sub-v member-requires loop-less loop-again same-length same-length-2 same-length-3 returns)

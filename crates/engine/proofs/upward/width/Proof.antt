@@ -33,13 +33,4 @@ returns c = search needs
 
 pub width-spec : {M : Type 1} → statement M
 width-spec =
-    tie.close
-    (tie.spec
-    mul-count
-    element-copy-out-count
-    count-requires
-    mul-count-2
-    element-copy-out-count-2
-    count-requires-2
-    add-result
-    returns)
+    tie.close (tie.spec mul-count element-copy-out-count count-requires mul-count-2 element-copy-out-count-2 count-requires-2 add-result returns)
