@@ -35,11 +35,11 @@ unfolding faultOf noOffer without tooMany apart entries
 fault-allowed f =
     first-allowed _ _ (unsound-allowed f)
     (λ e.
-    first-allowed _ _ (refusal-allowed _ _ (λ q. omega (arith, q)) (placed-if _ _ (λ t. omega arith)))
+    first-allowed _ _ (refusal-allowed 5 _ (λ q. omega (arith, q)) (placed-if _ _ (λ t. omega arith)))
     (λ e5.
-    first-allowed _ _ (refusal-allowed _ _ (λ q. omega (arith, q)) (member-placed _ f))
+    first-allowed _ _ (refusal-allowed 6 _ (λ q. omega (arith, q)) (member-placed _ f))
     (λ e6.
-    first-allowed _ _ (refusal-allowed _ _ (λ q. omega (arith, q)) (member-placed _ f))
+    first-allowed _ _ (refusal-allowed 7 _ (λ q. omega (arith, q)) (member-placed _ f))
     (λ e7.
-    first-allowed _ _ (refusal-allowed _ _ (λ q. omega (arith, q)) (record-placed closes f 0 (length f / 8) [] (omega (arith, sound-short f e))))
-    (λ e9. refusal-allowed _ _ (λ q. omega (arith, q)) (member-placed _ f))))))
+    first-allowed _ _ (refusal-allowed 9 _ (λ q. omega (arith, q)) (record-placed closes f 0 (length f / 8) [] (omega (arith, sound-short f e))))
+    (λ e9. refusal-allowed 10 _ (λ q. omega (arith, q)) (member-placed _ f))))))
