@@ -6,7 +6,6 @@ use mathlib.Core.Option.{none}
 use Prim.Native.Nat.{ℕ, _*_}
 use native.Mathlib.Omega.{arith}
 use lib.ListN.{length}
-use Rattle.network.specs.declared.Feeder.{Feeder}
 use Rattle.records.specs.Market.{marketOf}
 use Rattle.market.specs.Refusals.{faultOf}
 use Rattle.market.proofs.Verdicts.{verdict-some, verdict-none}
