@@ -7,10 +7,11 @@ use native.Mathlib.Omega.{arith}
 use lib.ListN.{length}
 use borrow.Author.Tests.{ltb-true}
 use Rattle.records.specs.Records.{Entry, entryAt, entriesFrom, entries}
+use Rattle.records.specs.Refusals.{refusal, fileLimit}
 use Rattle.records.specs.Market.{marketOf}
 use Rattle.records.proofs.Entries.{sound-short}
 use Rattle.records.proofs.Allowed.{IfAllowed, IfPlaced, here, placed-if, refusal-allowed, first-allowed, unsound-allowed}
-use Rattle.market.specs.Refusals.{lowestMember, firstRecord, noOffer, without, tooMany, closes, apart, faultOf}
+use Rattle.market.specs.Refusals.{lowestMember, firstRecord, noOffer, without, tooMany, closes, apart, from10, from9, faultOf}
 use Rattle.market.proofs.Top.{market-few}
 
 -- the first record that passes, of n from record i on
@@ -29,9 +30,17 @@ member-placed : (p : ℕ → Bool) (f : List ℕ) → IfPlaced (lowestMember p (
 unfolding lowestMember
 member-placed p f = placed-if _ _ (λ t. omega (arith, ltb-true _ (marketOf f .members) t, market-few f))
 
+-- refusals 9 and 10 of a file that is not too long
+from9-allowed : (f : List ℕ) → length f ≤ fileLimit → IfAllowed (from9 f)
+unfolding apart entries
+from9-allowed f h =
+    first-allowed (refusal 9 (firstRecord closes 0 [] (entries f))) (from10 f)
+    (refusal-allowed 9 _ (λ q. omega (arith, q)) (record-placed closes f 0 (length f / 8) [] (omega arith)))
+    (λ e9. refusal-allowed 10 _ (λ q. omega (arith, q)) (member-placed _ f))
+
 -- refusals 1 to 10
 pub fault-allowed : (f : List ℕ) → IfAllowed (faultOf f)
-unfolding faultOf noOffer without tooMany apart entries
+unfolding faultOf noOffer without tooMany
 fault-allowed f =
     first-allowed _ _ (unsound-allowed f)
     (λ e.
@@ -40,6 +49,4 @@ fault-allowed f =
     first-allowed _ _ (refusal-allowed 6 _ (λ q. omega (arith, q)) (member-placed _ f))
     (λ e6.
     first-allowed _ _ (refusal-allowed 7 _ (λ q. omega (arith, q)) (member-placed _ f))
-    (λ e7.
-    first-allowed _ _ (refusal-allowed 9 _ (λ q. omega (arith, q)) (record-placed closes f 0 (length f / 8) [] (omega (arith, sound-short f e))))
-    (λ e9. refusal-allowed 10 _ (λ q. omega (arith, q)) (member-placed _ f))))))
+    (λ e7. from9-allowed f (sound-short f e)))))

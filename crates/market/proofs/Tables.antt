@@ -23,6 +23,8 @@ use Rattle.records.specs.inner.Cases.{readingOf}
 use Rattle.records.proofs.Entries.{rest, ended, link-is, offer-is, fault-is, Fits, entry-fits}
 use Rattle.market.specs.Refusals.{lowestMember, offersBy, without, tooMany}
 use Rattle.market.specs.declared.offers.Tally.{Tally}
+use Rattle.market.specs.declared.Place.{Place}
+use Rattle.market.specs.inner.Cases.{placeOf}
 use Rattle.market.specs.inner.Tallies.{Offered, Counts, Tallied, outside}
 use Rattle.market.proofs.Passes.{members-same}
 use Rattle.market.proofs.Top.{members-few, members-apart}
@@ -158,10 +160,10 @@ no-count zero h = refl
 no-count (suc x) h = rw (ne-eqb (suc x) 0 (λ q. omega arith), le-ltb (suc x) 1 (omega arith), le-ltb 65535 (suc x) h)
 
 module _ (f : List ℕ) (t : Tally) (T : Tallied (entries f) t) where
-  pub without-is : without (marketOf f) ≡ lowestMember (outside (t .by) 1 65535) (t .members .0)
+  pub without-is : (r : Place) → r ≡ placeOf (lowestMember (outside (t .by) 1 65535) (t .members .0)) → r ≡ placeOf (without (marketOf f))
   unfolding without marketOf
-  without-is = outside-is (λ k. eqb k 0) 1 65535 no-count f t T
+  without-is r e = e ∙ sym (ap placeOf (outside-is (λ k. eqb k 0) 1 65535 no-count f t T))
 
-  pub too-many-is : tooMany (marketOf f) ≡ lowestMember (outside (t .by) 0 64) (t .members .0)
+  pub too-many-is : (r : Place) → r ≡ placeOf (lowestMember (outside (t .by) 0 64) (t .members .0)) → r ≡ placeOf (tooMany (marketOf f))
   unfolding tooMany marketOf
-  too-many-is = outside-is (λ k. ltb 64 k) 0 64 (λ x h. rw (le-ltb x 0 zero-le)) f t T
+  too-many-is r e = e ∙ sym (ap placeOf (outside-is (λ k. ltb 64 k) 0 64 (λ x h. rw (le-ltb x 0 zero-le)) f t T))

@@ -11,7 +11,7 @@ use types.Run.{OneOf}
 use denote.Enum.Declared.{tagOf}
 use borrow.Author.Tests.{eq-eqb, ne-eqb}
 use Rattle.numbers.proofs.Tests.{true-false}
-use Rattle.problem.specs.Problem.{Link, Offer, walk}
+use Rattle.problem.specs.Problem.{Link, Offer, Market, walk}
 use Rattle.records.specs.Records.{Entry, entries}
 use Rattle.records.specs.Records.Entry.{link, offer, fault}
 use Rattle.records.specs.Refusals.{Refusal, refusal, _otherwise_, placeIf, unsound}
@@ -21,6 +21,7 @@ use Rattle.records.specs.declared.Verdict.{Verdict}
 use Rattle.records.specs.declared.Verdict.the-variants as Verdict
 use Rattle.records.proofs.Verdict.{the-type}
 use Rattle.records.proofs.Entries.{Fits, by-record}
+use Rattle.market.specs.declared.Checked.{Checked}
 use Rattle.market.specs.declared.Place.{Place}
 use Rattle.market.specs.declared.Place.the-variants as Place
 use Rattle.market.specs.Refusals.{noOffer, apart, from10, from5, faultOf}
@@ -55,20 +56,20 @@ verdict-none (some r) v is t = absurd (omega (arith, t, ap (tagOf the-type) is))
 
 -- ---- the first that applies: a check decides, or leaves it to the rest
 
-module _ (k : ℕ) (o : Option ℕ) (later : Option Refusal) where
-  pub decided : (p : ℕ) → o ≡ some p → some (record { number = k; place = p }) ≡ (refusal k o otherwise later)
+module _ (m : Market) (k : ℕ) (o : Option ℕ) (later : Option Refusal) (x : Checked) where
+  pub decided : (p : ℕ) → o ≡ some p → ((m : Market) → x ≡ checked m (some (record { number = k; place = p }))) → x ≡ checked m (refusal k o otherwise later)
   unfolding _otherwise_ refusal
-  decided p e = sym (ap (λ (q : Option ℕ). refusal k q otherwise later) e)
+  decided p e h = h m ∙ sym (ap (λ (q : Option ℕ). checked m (refusal k q otherwise later)) e)
 
-  pub left-over : o ≡ none → later ≡ (refusal k o otherwise later)
+  pub left-over : o ≡ none → x ≡ checked m later → x ≡ checked m (refusal k o otherwise later)
   unfolding _otherwise_ refusal
-  left-over e = sym (ap (λ (q : Option ℕ). refusal k q otherwise later) e)
+  left-over e h = h ∙ sym (ap (λ (q : Option ℕ). checked m (refusal k q otherwise later)) e)
 
   -- by the place that a check gives
-  pub found : (r : Place) (p : ℕ) → r ≡ placeOf o → r ≡ Place.At p → some (record { number = k; place = p }) ≡ (refusal k o otherwise later)
+  pub found : (r : Place) (p : ℕ) → r ≡ placeOf o → r ≡ Place.At p → ((m : Market) → x ≡ checked m (some (record { number = k; place = p }))) → x ≡ checked m (refusal k o otherwise later)
   found r p is e = decided p (place-some o r p is e)
 
-  pub not-found : (r : Place) → r ≡ placeOf o → r ≡ nowhere → later ≡ (refusal k o otherwise later)
+  pub not-found : (r : Place) → r ≡ placeOf o → r ≡ nowhere → x ≡ checked m later → x ≡ checked m (refusal k o otherwise later)
   not-found r is e = left-over (place-none o r is e)
 
 pub refused-is : (k : ℕ) (o : Option ℕ) (p q : ℕ) → p ≡ q → o ≡ some q → some (record { number = k; place = p }) ≡ refusal k o

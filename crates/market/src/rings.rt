@@ -7,7 +7,6 @@ ghost use Rattle.records.specs.Records.{entries};
 ghost use Rattle.records.specs.Refusals.{fileLimit};
 ghost use Rattle.records.specs.Market.{linksOf};
 ghost use Rattle.market.specs.Refusals.{firstRecord, closes};
-ghost use Rattle.market.specs.declared.Place.{Place};
 ghost use Rattle.market.specs.inner.Cases.{placeOf, nowhere};
 ghost use Rattle.market.specs.inner.Lines.{kept, Fair};
 use crate::Place;

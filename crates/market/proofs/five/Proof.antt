@@ -1,6 +1,5 @@
 -- `five` meets its contract. Assumes nothing.
-use mathlib.Core.Path.{ap, _∙_}
-use Rattle.market.specs.inner.Feeders.{checked}
+use mathlib.Core.Path.{_∙_}
 use Rattle.market.proofs.Verdicts.{decided, left-over, no-offers, some-offers, member-of-offer}
 use borrow.Author.Needs.{needs}
 use native.Mathlib.Omega.{arith}
@@ -14,7 +13,7 @@ refused-requires : tie.Need-refused-requires
 refused-requires c κs = search needs
 
 returns : tie.Need-returns
-returns c = c .refused .ensures _ ∙ ap (checked _) (decided 5 _ _ 0 (no-offers _ _ (c .before .before .before .count-offers .ensures .offers) (c .before .if1 .taken)))
+returns c = decided _ 5 _ _ _ 0 (no-offers _ _ (c .before .before .before .count-offers .ensures .offers) (c .before .if1 .taken)) (c .refused .ensures)
 
 six-requires : tie.Need-six-requires
 six-requires c κs =
@@ -23,7 +22,7 @@ six-requires c κs =
     (search needs, t, omega (arith, t .members, member-of-offer f (λ e. c .if1 .left (t .offers ∙ e))))
 
 returns-2 : tie.Need-returns-2
-returns-2 c = c .six .ensures ∙ ap (checked _) (left-over 5 _ _ (some-offers _ _ (c .before .before .before .count-offers .ensures .offers) (c .before .if1 .left)))
+returns-2 c = left-over _ 5 _ _ _ (some-offers _ _ (c .before .before .before .count-offers .ensures .offers) (c .before .if1 .left)) (c .six .ensures)
 
 pub five-spec : {M : Type 1} → statement M
 five-spec =

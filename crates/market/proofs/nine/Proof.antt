@@ -1,8 +1,7 @@
 -- `nine` meets its contract. Assumes nothing.
-use mathlib.Core.Path.{sym, ap, _∙_, subst, subst₂}
+use mathlib.Core.Path.{sym, _∙_, subst, subst₂}
 use mathlib.Core.List.{[]}
 use Rattle.problem.proofs.Tree.{Within, Open}
-use Rattle.market.specs.inner.Feeders.{checked}
 use Rattle.market.proofs.Top.{members-few}
 use Rattle.market.proofs.LinkRecords.{links-within}
 use Rattle.market.proofs.Ringless.{ringless}
@@ -22,7 +21,7 @@ refused-requires : tie.Need-refused-requires
 refused-requires c κs = search needs
 
 returns : tie.Need-returns
-returns c = c .refused .ensures _ ∙ ap (checked _) (found 9 _ _ _ _ (c .before .before .before .before .read-links .ensures .0) (c .before .before .closing .given .1))
+returns c = found _ 9 _ _ _ _ _ (c .before .before .before .before .read-links .ensures .0) (c .before .before .closing .given .1) (c .refused .ensures)
 
 enum-told : tie.Need-enum-told
 enum-told c = search needs
@@ -40,7 +39,7 @@ returns-2 : tie.Need-returns-2
 returns-2 c =
     let r = c .before .before .before .before .read-links .ensures in
     let none-closes = c .before .before .enum-told .given .1 in
-    c .ten .ensures ∙ only-10 _ _ _ (c .before .before .before .before .before .before .pre .1) (r .2 none-closes) ∙ ap (checked _) (not-found 9 _ _ _ (r .0) none-closes)
+    not-found _ 9 _ _ _ _ (r .0) none-closes (c .ten .ensures ∙ only-10 _ _ _ (c .before .before .before .before .before .before .pre .1) (r .2 none-closes))
 
 pub nine-spec : {M : Type 1} → statement M
 nine-spec =

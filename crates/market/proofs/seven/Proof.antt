@@ -1,9 +1,4 @@
 -- `seven` meets its contract. Assumes nothing.
-use mathlib.Core.Path.{_≡_, sym, ap, _∙_}
-use Rattle.records.specs.Market.{marketOf}
-use Rattle.market.specs.Refusals.{tooMany}
-use Rattle.market.specs.inner.Cases.{placeOf}
-use Rattle.market.specs.inner.Feeders.{checked}
 use Rattle.market.proofs.Top.{members-few}
 use Rattle.market.proofs.Tables.{too-many-is}
 use Rattle.market.proofs.Verdicts.{found, not-found}
@@ -11,9 +6,6 @@ use borrow.Author.Needs.{needs}
 use native.Mathlib.Omega.{arith}
 use Rattle.market.proofs.seven.Statement.{statement}
 use Rattle.market.proofs.seven.Tie as tie
-
-is : (c : tie.After-lowest-outside) → c .lowest-outside .result ≡ placeOf (tooMany (marketOf (c .before .before .before .args .file .now)))
-is c = let s = c .before .before .before in c .lowest-outside .ensures ∙ ap placeOf (sym (too-many-is (s .args .file .now) (s .args .t) (s .pre .1)))
 
 lowest-outside-requires : tie.Need-lowest-outside-requires
 lowest-outside-requires c κs =
@@ -27,7 +19,10 @@ refused-requires : tie.Need-refused-requires
 refused-requires c κs = search needs
 
 returns : tie.Need-returns
-returns c = c .refused .ensures _ ∙ ap (checked _) (found 7 _ _ _ _ (is (c .before .before .before .before)) (c .before .before .many .given .1))
+returns c =
+    let w = c .before .before .before .before in
+    let s = w .before .before .before in
+    found _ 7 _ _ _ _ _ (too-many-is _ (s .args .t) (s .pre .1) _ (w .lowest-outside .ensures)) (c .before .before .many .given .1) (c .refused .ensures)
 
 enum-told : tie.Need-enum-told
 enum-told c = search needs
@@ -36,7 +31,10 @@ nine-requires : tie.Need-nine-requires
 nine-requires c κs = search needs
 
 returns-2 : tie.Need-returns-2
-returns-2 c = c .nine .ensures ∙ ap (checked _) (not-found 7 _ _ _ (is (c .before .before .before)) (c .before .enum-told .given .1))
+returns-2 c =
+    let w = c .before .before .before in
+    let s = w .before .before .before in
+    not-found _ 7 _ _ _ _ (too-many-is _ (s .args .t) (s .pre .1) _ (w .lowest-outside .ensures)) (c .before .enum-told .given .1) (c .nine .ensures)
 
 pub seven-spec : {M : Type 1} → statement M
 seven-spec =
