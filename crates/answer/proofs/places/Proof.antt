@@ -53,15 +53,4 @@ returns c = seated (c .loop-test .left) (c .before .loop .inv .1)
 pub places-spec : {M : Type 1} → statement M
 places-spec =
     tie.close
-    (tie.spec
-    Inv-loop
-    μ-loop
-    loop-holds
-    cast-member
-    element-copy-out-member
-    index-requires
-    array-write-place
-    add-i
-    loop-less
-    loop-again
-    returns)
+    (tie.spec Inv-loop μ-loop loop-holds cast-member element-copy-out-member index-requires array-write-place add-i loop-less loop-again returns)

@@ -84,20 +84,5 @@ returns c m ys S =
 pub write-spec : {M : Type 1} → statement M
 write-spec =
     tie.close
-    (tie.spec
-    places-requires
-    write-members-requires
-    cast-members
-    mul-from
-    mul-to
-    sub-to
-    sub-write-links
-    part-write-links-start
-    part-write-links-end
-    write-links-requires
-    sub-put-total
-    part-put-total-start
-    part-put-total-end
-    put-total-requires
-    same-length
-    returns)
+    (tie.spec places-requires write-members-requires cast-members mul-from mul-to sub-to sub-write-links part-write-links-start part-write-links-end write-links-requires
+    sub-put-total part-put-total-start part-put-total-end put-total-requires same-length returns)

@@ -121,25 +121,5 @@ returns c =
 pub write-members-spec : {M : Type 1} → statement M
 write-members-spec =
     tie.close
-    (tie.spec
-    Inv-loop
-    μ-loop
-    cast-members
-    loop-holds
-    at-requires
-    array-read-x
-    cast-x
-    mul-x
-    array-copy-out-x
-    add-i
-    value-of-requires
-    price-of-requires
-    sub-put-member
-    part-put-member-start
-    part-put-member-end
-    put-member-requires
-    add-at
-    loop-less
-    loop-again
-    same-length
-    returns)
+    (tie.spec Inv-loop μ-loop cast-members loop-holds at-requires array-read-x cast-x mul-x array-copy-out-x add-i value-of-requires price-of-requires sub-put-member
+    part-put-member-start part-put-member-end put-member-requires add-at loop-less loop-again same-length returns)

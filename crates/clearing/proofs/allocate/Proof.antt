@@ -45,13 +45,4 @@ returns-2 c m H =
 pub allocate-spec : {M : Type 1} → statement M
 allocate-spec =
     tie.close
-    (tie.spec
-    solve-requires
-    refusal-requires
-    returns
-    total-of-requires
-    write-requires
-    cast-result
-    mul-result
-    same-length
-    returns-2)
+    (tie.spec solve-requires refusal-requires returns total-of-requires write-requires cast-result mul-result same-length returns-2)

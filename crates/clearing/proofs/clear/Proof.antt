@@ -90,17 +90,5 @@ returns-3 c =
 pub clear-spec : {M : Type 1} → statement M
 clear-spec =
     tie.close
-    (tie.spec
-    market-requires
-    enum-known-verdict
-    refusal-requires
-    returns
-    enum-told
-    cast-size
-    mul-size
-    cast-refusal
-    refusal-requires-2
-    returns-2
-    allocate-requires
-    same-length
-    returns-3)
+    (tie.spec market-requires enum-known-verdict refusal-requires returns enum-told cast-size mul-size cast-refusal refusal-requires-2 returns-2 allocate-requires
+    same-length returns-3)

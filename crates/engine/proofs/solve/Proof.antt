@@ -51,5 +51,5 @@ returns c =
 pub solve-spec : {M : Type 1} → statement M
 solve-spec =
     tie.close
-    (tie.spec slice-aggregate-upward slice-aggregate-upward-2 slice-aggregate-upward-3 upward-requires slice-aggregate-choose choose-requires
-    array-read-settle settle-requires returns)
+    (tie.spec slice-aggregate-upward slice-aggregate-upward-2 slice-aggregate-upward-3 upward-requires slice-aggregate-choose choose-requires array-read-settle
+    settle-requires returns)

@@ -72,17 +72,4 @@ returns-4 c = sym (ap verdictOf (c .before .loop .inv .3 ∙ none-left _ _ _ (c 
 pub check-records-spec : {M : Type 1} → statement M
 check-records-spec =
     tie.close
-    (tie.spec
-    Inv-loop
-    μ-loop
-    returns
-    returns-2
-    loop-holds
-    read-at-requires
-    enum-known-r
-    cast-t10
-    returns-3
-    add-i
-    loop-less
-    loop-again
-    returns-4)
+    (tie.spec Inv-loop μ-loop returns returns-2 loop-holds read-at-requires enum-known-r cast-t10 returns-3 add-i loop-less loop-again returns-4)

@@ -92,13 +92,4 @@ returns-8 c =
 pub link-of-spec : {M : Type 1} → statement M
 link-of-spec =
     tie.close
-    (tie.spec
-    returns
-    returns-2
-    returns-3
-    returns-4
-    returns-5
-    returns-6
-    returns-7
-    cast-t10
-    returns-8)
+    (tie.spec returns returns-2 returns-3 returns-4 returns-5 returns-6 returns-7 cast-t10 returns-8)

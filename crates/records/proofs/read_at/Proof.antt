@@ -150,44 +150,8 @@ returns-3 c = simp (add-zero, ne-eqb _ 1 (c .before .if1 .left), ne-eqb _ 2 (c .
 pub read-at-spec : {M : Type 1} → statement M
 read-at-spec =
     tie.close
-    (tie.spec
-    mul-at
-    shared-slice-read-kind
-    add-two
-    shared-slice-read-two
-    add-two-2
-    shared-slice-read-two-2
-    two-requires
-    add-link-of
-    shared-slice-read-link-of
-    add-link-of-2
-    shared-slice-read-link-of-2
-    add-link-of-3
-    shared-slice-read-link-of-3
-    add-link-of-4
-    shared-slice-read-link-of-4
-    add-link-of-5
-    shared-slice-read-link-of-5
-    link-of-requires
-    returns
-    add-two-3
-    shared-slice-read-two-3
-    add-two-4
-    shared-slice-read-two-4
-    two-requires-2
-    from-bits-requires
-    add-four
-    shared-slice-read-four
-    add-four-2
-    shared-slice-read-four-2
-    add-four-3
-    shared-slice-read-four-3
-    add-four-4
-    shared-slice-read-four-4
-    four-requires
-    from-bits-requires-2
-    add-offer-of
-    shared-slice-read-offer-of
-    offer-of-requires
-    returns-2
-    returns-3)
+    (tie.spec mul-at shared-slice-read-kind add-two shared-slice-read-two add-two-2 shared-slice-read-two-2 two-requires add-link-of shared-slice-read-link-of
+    add-link-of-2 shared-slice-read-link-of-2 add-link-of-3 shared-slice-read-link-of-3 add-link-of-4 shared-slice-read-link-of-4 add-link-of-5
+    shared-slice-read-link-of-5 link-of-requires returns add-two-3 shared-slice-read-two-3 add-two-4 shared-slice-read-two-4 two-requires-2 from-bits-requires add-four
+    shared-slice-read-four add-four-2 shared-slice-read-four-2 add-four-3 shared-slice-read-four-3 add-four-4 shared-slice-read-four-4 four-requires from-bits-requires-2
+    add-offer-of shared-slice-read-offer-of offer-of-requires returns-2 returns-3)

@@ -100,27 +100,5 @@ returns c =
 pub cell-spec : {M : Type 1} → statement M
 cell-spec =
     tie.close
-    (tie.spec
-    Inv-loop
-    μ-loop
-    sub-w
-    shared-slice-read-sum
-    add-sum
-    mul-sum
-    shared-slice-read-sum-2
-    sum-requires
-    loop-holds
-    add-p
-    mul-sum-2
-    shared-slice-read-sum-3
-    sub-sum
-    add-sum-2
-    mul-sum-3
-    shared-slice-read-sum-4
-    sum-requires-2
-    cast-pick
-    loop-less
-    loop-again
-    loop-less-2
-    loop-again-2
-    returns)
+    (tie.spec Inv-loop μ-loop sub-w shared-slice-read-sum add-sum mul-sum shared-slice-read-sum-2 sum-requires loop-holds add-p mul-sum-2 shared-slice-read-sum-3 sub-sum
+    add-sum-2 mul-sum-3 shared-slice-read-sum-4 sum-requires-2 cast-pick loop-less loop-again loop-less-2 loop-again-2 returns)

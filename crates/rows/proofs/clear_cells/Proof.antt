@@ -40,14 +40,4 @@ returns c = λ x h. c .before .loop .inv .1 .cells x (omega arith)
 pub clear-cells-spec : {M : Type 1} → statement M
 clear-cells-spec =
     tie.close
-    (tie.spec
-    Inv-loop
-    μ-loop
-    loop-holds
-    mul-row
-    slice-write-row
-    add-x
-    loop-less
-    loop-again
-    same-length
-    returns)
+    (tie.spec Inv-loop μ-loop loop-holds mul-row slice-write-row add-x loop-less loop-again same-length returns)

@@ -94,23 +94,5 @@ returns c =
 pub combine-spec : {M : Type 1} → statement M
 combine-spec =
     tie.close
-    (tie.spec
-    Inv-loop
-    μ-loop
-    slice-aggregate-copy-cells
-    copy-cells-requires
-    add-left
-    sub-left
-    loop-holds
-    array-share-prefix-old
-    slice-aggregate-cell
-    cell-requires
-    mul-row
-    slice-write-row
-    slice-write-choice
-    add-x
-    loop-less
-    loop-again
-    same-length
-    same-length-2
-    returns)
+    (tie.spec Inv-loop μ-loop slice-aggregate-copy-cells copy-cells-requires add-left sub-left loop-holds array-share-prefix-old slice-aggregate-cell cell-requires
+    mul-row slice-write-row slice-write-choice add-x loop-less loop-again same-length same-length-2 returns)

@@ -48,16 +48,4 @@ returns c =
 pub copy-cells-spec : {M : Type 1} → statement M
 copy-cells-spec =
     tie.close
-    (tie.spec
-    Inv-loop
-    μ-loop
-    loop-holds
-    mul-to
-    shared-slice-read-to
-    mul-to-2
-    slice-write-to
-    add-i
-    loop-less
-    loop-again
-    same-length
-    returns)
+    (tie.spec Inv-loop μ-loop loop-holds mul-to shared-slice-read-to mul-to-2 slice-write-to add-i loop-less loop-again same-length returns)

@@ -40,13 +40,4 @@ returns-3 c =
 pub offer-at-spec : {M : Type 1} → statement M
 offer-at-spec =
     tie.close
-    (tie.spec
-    mul-if1
-    add-if1
-    shared-slice-read-if1
-    returns
-    read-at-requires
-    enum-known-units
-    returns-2
-    cell-of-requires
-    returns-3)
+    (tie.spec mul-if1 add-if1 shared-slice-read-if1 returns read-at-requires enum-known-units returns-2 cell-of-requires returns-3)

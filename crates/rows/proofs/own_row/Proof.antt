@@ -62,14 +62,4 @@ returns c = λ x h. sym (c .before .loop .inv .3 x (omega (arith, same-length c)
 pub own-row-spec : {M : Type 1} → statement M
 own-row-spec =
     tie.close
-    (tie.spec
-    Inv-loop
-    μ-loop
-    clear-cells-requires
-    loop-holds
-    put-record-requires
-    add-i
-    loop-less
-    loop-again
-    same-length
-    returns)
+    (tie.spec Inv-loop μ-loop clear-cells-requires loop-holds put-record-requires add-i loop-less loop-again same-length returns)

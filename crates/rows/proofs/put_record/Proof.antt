@@ -107,17 +107,4 @@ returns-5 c = let k = c .before .before .before .before in λ x h. here k (row k
 pub put-record-spec : {M : Type 1} → statement M
 put-record-spec =
     tie.close
-    (tie.spec
-    offer-at-requires
-    returns
-    place-of-requires
-    returns-2
-    cast-x
-    returns-3
-    mul-if4
-    slice-read-if4
-    mul-row
-    slice-write-row
-    same-length
-    returns-4
-    returns-5)
+    (tie.spec offer-at-requires returns place-of-requires returns-2 cast-x returns-3 mul-if4 slice-read-if4 mul-row slice-write-row same-length returns-4 returns-5)

@@ -72,14 +72,4 @@ returns-2 c =
 pub value-of-spec : {M : Type 1} → statement M
 value-of-spec =
     tie.close
-    (tie.spec
-    Inv-loop
-    μ-loop
-    loop-holds
-    cell-at-requires
-    add-i
-    loop-less
-    loop-again
-    returns
-    total-of-requires
-    returns-2)
+    (tie.spec Inv-loop μ-loop loop-holds cell-at-requires add-i loop-less loop-again returns total-of-requires returns-2)

@@ -61,4 +61,5 @@ returns c = search needs
 pub walk-spec : {M : Type 1} → statement M
 walk-spec =
     tie.close
-    (tie.spec Inv-loop μ-loop cast-n slice-aggregate-text text-requires array-copy-out-member member-requires loop-holds position-at-requires cast-from member-at-requires member-at-requires-2 units-at-requires reached-requires add-i loop-less loop-again returns)
+    (tie.spec Inv-loop μ-loop cast-n slice-aggregate-text text-requires array-copy-out-member member-requires loop-holds position-at-requires cast-from member-at-requires
+    member-at-requires-2 units-at-requires reached-requires add-i loop-less loop-again returns)

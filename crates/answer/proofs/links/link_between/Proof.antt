@@ -76,17 +76,5 @@ returns-4 c =
 pub link-between-spec : {M : Type 1} → statement M
 link-between-spec =
     tie.close
-    (tie.spec
-    below-requires
-    returns
-    index-requires
-    array-read-lower
-    index-requires-2
-    array-read-higher
-    cast-if2
-    array-read-if2
-    returns-2
-    cast-if3
-    array-read-if3
-    returns-3
-    returns-4)
+    (tie.spec below-requires returns index-requires array-read-lower index-requires-2 array-read-higher cast-if2 array-read-if2 returns-2 cast-if3 array-read-if3
+    returns-3 returns-4)

@@ -99,19 +99,5 @@ returns c =
 pub write-links-spec : {M : Type 1} → statement M
 write-links-spec =
     tie.close
-    (tie.spec
-    Inv-loop
-    μ-loop
-    cast-members
-    loop-holds
-    at-requires
-    add-i
-    sub-write-links-of
-    part-write-links-of-start
-    part-write-links-of-end
-    write-links-of-requires
-    add-at
-    loop-less
-    loop-again
-    same-length
-    returns)
+    (tie.spec Inv-loop μ-loop cast-members loop-holds at-requires add-i sub-write-links-of part-write-links-of-start part-write-links-of-end write-links-of-requires
+    add-at loop-less loop-again same-length returns)

@@ -170,31 +170,6 @@ returns c =
 pub write-links-of-spec : {M : Type 1} → statement M
 write-links-of-spec =
     tie.close
-    (tie.spec
-    Inv-loop
-    μ-loop
-    cast-members
-    loop-holds
-    at-requires
-    add-i
-    link-between-requires
-    enum-known-position
-    enum-told
-    loop-less
-    loop-again
-    cast-capacity
-    mul-capacity
-    element-copy-out-capacity
-    cast-from-lower
-    mul-from-lower
-    array-copy-out-from-lower
-    from-lower-requires
-    sub-put-link
-    part-put-link-start
-    part-put-link-end
-    put-link-requires
-    add-at
-    loop-less-2
-    loop-again-2
-    same-length
-    returns)
+    (tie.spec Inv-loop μ-loop cast-members loop-holds at-requires add-i link-between-requires enum-known-position enum-told loop-less loop-again cast-capacity
+    mul-capacity element-copy-out-capacity cast-from-lower mul-from-lower array-copy-out-from-lower from-lower-requires sub-put-link part-put-link-start part-put-link-end
+    put-link-requires add-at loop-less-2 loop-again-2 same-length returns)

@@ -45,14 +45,5 @@ returns c = eight (c .args .out .now) _ _ _ _ _ _ _ _ (c .pre)
 pub put8-spec : {M : Type 1} → statement M
 put8-spec =
     tie.close
-    (tie.spec
-    slice-write-out
-    slice-write-out-2
-    slice-write-out-3
-    slice-write-out-4
-    slice-write-out-5
-    slice-write-out-6
-    slice-write-out-7
-    slice-write-out-8
-    same-length
+    (tie.spec slice-write-out slice-write-out-2 slice-write-out-3 slice-write-out-4 slice-write-out-5 slice-write-out-6 slice-write-out-7 slice-write-out-8 same-length
     returns)

@@ -38,13 +38,4 @@ returns c =
 pub put-link-spec : {M : Type 1} → statement M
 put-link-spec =
     tie.close
-    (tie.spec
-    bits-requires
-    load-of-requires
-    cast-put8
-    cast-put8-2
-    cast-put8-3
-    cast-put8-4
-    put8-requires
-    same-length
-    returns)
+    (tie.spec bits-requires load-of-requires cast-put8 cast-put8-2 cast-put8-3 cast-put8-4 put8-requires same-length returns)

@@ -43,15 +43,4 @@ returns c =
 pub put-member-spec : {M : Type 1} → statement M
 put-member-spec =
     tie.close
-    (tie.spec
-    bits-requires
-    bits-requires-2
-    cast-put8
-    cast-put8-2
-    cast-put8-3
-    cast-put8-4
-    cast-put8-5
-    cast-put8-6
-    put8-requires
-    same-length
-    returns)
+    (tie.spec bits-requires bits-requires-2 cast-put8 cast-put8-2 cast-put8-3 cast-put8-4 cast-put8-5 cast-put8-6 put8-requires same-length returns)

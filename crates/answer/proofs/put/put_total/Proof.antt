@@ -32,12 +32,4 @@ returns c = rw (c .before .before .before .before .bits .ensures) at (c .before 
 pub put-total-spec : {M : Type 1} → statement M
 put-total-spec =
     tie.close
-    (tie.spec
-    bits-requires
-    cast-put8
-    cast-put8-2
-    cast-put8-3
-    cast-put8-4
-    put8-requires
-    same-length
-    returns)
+    (tie.spec bits-requires cast-put8 cast-put8-2 cast-put8-3 cast-put8-4 put8-requires same-length returns)

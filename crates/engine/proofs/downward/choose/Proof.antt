@@ -136,6 +136,5 @@ returns c = λ own k.
 pub choose-spec : {M : Type 1} → statement M
 choose-spec =
     tie.close
-    (tie.spec Inv-loop μ-loop wide-requires loop-holds element-copy-out-wide wide-requires-2 mul-x array-read-x slot-requires add-at
-    shared-slice-read-c array-write-choice wide-requires-3 width-requires sub-index add-index mul-index array-write-index mul-index-2
-    array-write-index-2 add-i loop-less loop-again returns)
+    (tie.spec Inv-loop μ-loop wide-requires loop-holds element-copy-out-wide wide-requires-2 mul-x array-read-x slot-requires add-at shared-slice-read-c
+    array-write-choice wide-requires-3 width-requires sub-index add-index mul-index array-write-index mul-index-2 array-write-index-2 add-i loop-less loop-again returns)

@@ -85,5 +85,5 @@ returns c =
 pub settle-spec : {M : Type 1} → statement M
 settle-spec =
     tie.close
-    (tie.spec Inv-loop μ-loop wide-requires loop-holds mul-net-of element-copy-out-net-of net-of-requires mul-net array-set-from-net
-    element-copy-out-sent-of sent-of-requires mul-sent array-set-from-sent add-i loop-less loop-again returns)
+    (tie.spec Inv-loop μ-loop wide-requires loop-holds mul-net-of element-copy-out-net-of net-of-requires mul-net array-set-from-net element-copy-out-sent-of
+    sent-of-requires mul-sent array-set-from-sent add-i loop-less loop-again returns)

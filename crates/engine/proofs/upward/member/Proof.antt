@@ -155,6 +155,5 @@ returns c = λ own r.
 pub member-spec : {M : Type 1} → statement M
 member-spec =
     tie.close
-    (tie.spec Inv-loop μ-loop row-len-requires own-cells-requires wide-requires loop-holds add-loop sub-k element-copy-out-wide wide-requires-2
-    width-requires take-in-requires sub-len loop-less loop-again loop-less-2 loop-again-2 put-message-requires same-length same-length-2
-    same-length-3 returns)
+    (tie.spec Inv-loop μ-loop row-len-requires own-cells-requires wide-requires loop-holds add-loop sub-k element-copy-out-wide wide-requires-2 width-requires
+    take-in-requires sub-len loop-less loop-again loop-less-2 loop-again-2 put-message-requires same-length same-length-2 same-length-3 returns)

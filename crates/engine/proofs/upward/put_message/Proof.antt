@@ -50,5 +50,4 @@ returns c =
 pub put-message-spec : {M : Type 1} → statement M
 put-message-spec =
     tie.close
-    (tie.spec mul-b add-e slice-aggregate-copy-cells mul-copy-cells sub-copy-cells part-copy-cells-start part-copy-cells-end copy-cells-requires
-    same-length returns)
+    (tie.spec mul-b add-e slice-aggregate-copy-cells mul-copy-cells sub-copy-cells part-copy-cells-start part-copy-cells-end copy-cells-requires same-length returns)

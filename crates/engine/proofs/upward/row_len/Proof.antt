@@ -85,5 +85,5 @@ returns c = λ own.
 pub row-len-spec : {M : Type 1} → statement M
 row-len-spec =
     tie.close
-    (tie.spec Inv-loop μ-loop wide-requires width-requires add-len add-k loop-holds element-copy-out-wide wide-requires-2 width-requires-2 add-len-2
-    add-k-2 loop-less loop-again returns)
+    (tie.spec Inv-loop μ-loop wide-requires width-requires add-len add-k loop-holds element-copy-out-wide wide-requires-2 width-requires-2 add-len-2 add-k-2 loop-less
+    loop-again returns)

@@ -87,5 +87,5 @@ returns c =
 pub take-in-spec : {M : Type 1} → statement M
 take-in-spec =
     tie.close
-    (tie.spec mul-a add-e add-e-2 slot-requires sub-d add-d slice-relend-prefix-combine slice-aggregate-combine mul-combine sub-combine
-    part-combine-start part-combine-end sub-combine-2 part-combine-start-2 part-combine-end-2 combine-requires same-length same-length-2 returns)
+    (tie.spec mul-a add-e add-e-2 slot-requires sub-d add-d slice-relend-prefix-combine slice-aggregate-combine mul-combine sub-combine part-combine-start
+    part-combine-end sub-combine-2 part-combine-start-2 part-combine-end-2 combine-requires same-length same-length-2 returns)

@@ -93,5 +93,5 @@ returns c =
 pub top-spec : {M : Type 1} → statement M
 top-spec =
     tie.close
-    (tie.spec Inv-loop μ-loop wide-requires mul-sum element-copy-out-sum loop-holds element-copy-out-wide wide-requires-2 mul-plus
-    element-copy-out-plus plus-requires add-k loop-less loop-again returns)
+    (tie.spec Inv-loop μ-loop wide-requires mul-sum element-copy-out-sum loop-holds element-copy-out-wide wide-requires-2 mul-plus element-copy-out-plus plus-requires
+    add-k loop-less loop-again returns)

@@ -67,4 +67,5 @@ returns-3 c = sym (ap placeOf (member-none _ _ _ (c .before .loop .inv .1) (c .l
 pub lowest-outside-spec : {M : Type 1} → statement M
 lowest-outside-spec =
     tie.close
-    (tie.spec Inv-loop μ-loop cast-last loop-holds mul-count array-read-count member-place-requires returns member-place-requires-2 returns-2 add-j loop-less loop-again returns-3)
+    (tie.spec Inv-loop μ-loop cast-last loop-holds mul-count array-read-count member-place-requires returns member-place-requires-2 returns-2 add-j loop-less loop-again
+    returns-3)

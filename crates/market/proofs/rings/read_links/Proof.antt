@@ -137,4 +137,5 @@ returns-2 c =
 pub read-links-spec : {M : Type 1} → statement M
 read-links-spec =
     tie.close
-    (tie.spec Inv-loop μ-loop no-links-requires loop-holds read-at-requires enum-known-r add-i loop-less loop-again index-requires index-requires-2 joined-requires enum-known-joining enum-told cast-t21 returns merged-requires with-link-requires add-i-2 loop-less-2 loop-again-2 returns-2)
+    (tie.spec Inv-loop μ-loop no-links-requires loop-holds read-at-requires enum-known-r add-i loop-less loop-again index-requires index-requires-2 joined-requires
+    enum-known-joining enum-told cast-t21 returns merged-requires with-link-requires add-i-2 loop-less-2 loop-again-2 returns-2)

@@ -63,4 +63,5 @@ returns c =
 pub carried-spec : {M : Type 1} → statement M
 carried-spec =
     tie.close
-    (tie.spec Inv-loop μ-loop loop-holds array-read-from cast-from array-copy-out-capacity array-copy-out-capacity-2 capacity-requires mul-out array-set-from-out add-i loop-less loop-again returns)
+    (tie.spec Inv-loop μ-loop loop-holds array-read-from cast-from array-copy-out-capacity array-copy-out-capacity-2 capacity-requires mul-out array-set-from-out add-i
+    loop-less loop-again returns)

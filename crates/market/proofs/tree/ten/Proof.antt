@@ -78,4 +78,5 @@ returns-2 c =
 pub ten-spec : {M : Type 1} → statement M
 ten-spec =
     tie.close
-    (tie.spec cast-size neighbours-requires walk-requires lowest-missing-requires cast-member-place member-place-requires refused-requires returns cast-carried carried-requires returns-2)
+    (tie.spec cast-size neighbours-requires walk-requires lowest-missing-requires cast-member-place member-place-requires refused-requires returns cast-carried
+    carried-requires returns-2)

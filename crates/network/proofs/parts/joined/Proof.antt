@@ -57,4 +57,5 @@ returns-2 c = searched-all _ _ _ _ _ _ (omega (arith, c .before .loop .inv .0, c
 pub joined-spec : {M : Type 1} → statement M
 joined-spec =
     tie.close
-    (tie.spec Inv-loop μ-loop only-requires only-requires-2 join-requires loop-holds mul-old array-read-old holds-both-requires returns gathered-requires add-e loop-less loop-again returns-2)
+    (tie.spec Inv-loop μ-loop only-requires only-requires-2 join-requires loop-holds mul-old array-read-old holds-both-requires returns gathered-requires add-e loop-less
+    loop-again returns-2)

@@ -54,18 +54,5 @@ returns c = merging-done _ _ (c .before .loop .e) (c .before .before .args .coun
 pub merged-spec : {M : Type 1} → statement M
 merged-spec =
     tie.close
-    (tie.spec
-    Inv-loop
-    μ-loop
-    loop-holds
-    mul-replaced
-    array-read-replaced
-    replaced-requires
-    mul-out
-    array-write-out
-    add-e
-    loop-less
-    loop-again
-    mul-out-2
-    array-write-out-2
+    (tie.spec Inv-loop μ-loop loop-holds mul-replaced array-read-replaced replaced-requires mul-out array-write-out add-e loop-less loop-again mul-out-2 array-write-out-2
     returns)

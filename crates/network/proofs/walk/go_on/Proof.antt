@@ -69,4 +69,5 @@ returns-2 c = none-found _ _ _ _ _ (c .before .loop .inv .1) (c .loop-test .left
 pub go-on-spec : {M : Type 1} → statement M
 go-on-spec =
     tie.close
-    (tie.spec Inv-loop μ-loop loop-holds sub-k array-copy-out-index index-requires mul-free-of array-read-free-of free-of-requires cast-at at-requires cast-t21 returns loop-less loop-again returns-2)
+    (tie.spec Inv-loop μ-loop loop-holds sub-k array-copy-out-index index-requires mul-free-of array-read-free-of free-of-requires cast-at at-requires cast-t21 returns
+    loop-less loop-again returns-2)

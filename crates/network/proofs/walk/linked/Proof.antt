@@ -48,17 +48,5 @@ returns c =
 pub linked-spec : {M : Type 1} → statement M
 linked-spec =
     tie.close
-    (tie.spec
-    mul-join
-    array-read-join
-    only-requires
-    join-requires
-    mul-out
-    array-write-out
-    mul-join-2
-    array-read-join-2
-    only-requires-2
-    join-requires-2
-    mul-out-2
-    array-write-out-2
-    returns)
+    (tie.spec mul-join array-read-join only-requires join-requires mul-out array-write-out mul-join-2 array-read-join-2 only-requires-2 join-requires-2 mul-out-2
+    array-write-out-2 returns)

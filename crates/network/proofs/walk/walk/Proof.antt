@@ -91,4 +91,5 @@ returns-2 c =
 pub walk-spec : {M : Type 1} → statement M
 walk-spec =
     tie.close
-    (tie.spec Inv-loop μ-loop array-set-from-member loop-holds go-on-requires enum-known-next enum-told returns array-set-from-member-2 array-write-parent index-requires only-requires join-requires add-count loop-less loop-again returns-2)
+    (tie.spec Inv-loop μ-loop array-set-from-member loop-holds go-on-requires enum-known-next enum-told returns array-set-from-member-2 array-write-parent index-requires
+    only-requires join-requires add-count loop-less loop-again returns-2)
