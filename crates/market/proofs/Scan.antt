@@ -97,14 +97,19 @@ pass-skip f ms s n i r h is t P =
 
 -- ---- a link, whose ends are x and y, and their indices a and b
 
-module _ (f ms : List ℕ) (s : Links) (n i : ℕ) (P : Pass f ms s n i) (h : i < n) (r : Reading) (is : r ≡ readingOf (entryAt f i)) (x y : Member) (c : Units) (at : r ≡ Reading.Link x y c) where
+pub record Found (f ms : List ℕ) (s : Links) (n i : ℕ) (x y : Member) (c : Units) : Type 0 where
+  pub pass : Pass f ms s n i
+  pub more : i < n
+  pub reading : Reading.Link x y c ≡ readingOf (entryAt f i)
+
+module _ {f ms : List ℕ} {s : Links} {n i : ℕ} {x y : Member} {c : Units} (F : Found f ms s n i x y c) where
   fits : LinkFits (linkRead x y c)
-  fits = link-ranges f i n r h is x y c at
+  fits = link-ranges f i n (Reading.Link x y c) (F .more) (F .reading) x y c refl
 
   pub line-fits : LineFits (record { a = x; b = y; capacity = c })
-  line-fits = record { low = fits .low; below = fits .below; high = fits .high; counted = link-units (entryAt f i) x y c (sym is ∙ at) }
+  line-fits = record { low = fits .low; below = fits .below; high = fits .high; counted = link-units (entryAt f i) x y c (sym (F .reading)) }
 
-  module _ (a b : ℕ) (p : a ≡ x .0 - 1) (q : b ≡ y .0 - 1) where
+  module _ {a b : ℕ} (p : a ≡ x .0 - 1) (q : b ≡ y .0 - 1) where
     low : x .0 ≡ suc a
     low = omega (arith, fits .low)
 
@@ -116,27 +121,27 @@ module _ (f ms : List ℕ) (s : Links) (n i : ℕ) (P : Pass f ms s n i) (h : i 
 
     closes-is : closes (earlier f i) (entryAt f i) ≡ joined (before f i) (suc a) (suc b)
     unfolding closes
-    closes-is = ap (closes (earlier f i)) (link-here f i n r h is x y c at) ∙ ap₂ (joined (before f i)) low high
+    closes-is = ap (closes (earlier f i)) (link-here f i n (Reading.Link x y c) (F .more) (F .reading) x y c refl) ∙ ap₂ (joined (before f i)) low high
 
     -- a set holds both ends
-    pub pass-hit : (e : ℕ) × (e < s .count) × ((holds (getD ms e 0) a && holds (getD ms e 0) b) ≡ true) → firstRecord closes 0 [] (entries f) ≡ some i
-    pass-hit g =
-        let t = and-true (holds (getD ms (g .0) 0) a) (holds (getD ms (g .0) 0) b) (g .2) in
-        P .answer
-        ∙ record-hit closes f n i h
-        (closes-is ∙ joined-is (before f i) (suc a) (suc b) .1 (closing (before f i) (λ e. getD ms e 0) (s .count) (P .keeps) a b (g .0) (g .1) (t .0) (t .1)))
+    pub pass-hit : (e : ℕ) → e < s .count → (holds (getD ms e 0) a && holds (getD ms e 0) b) ≡ true → firstRecord closes 0 [] (entries f) ≡ some i
+    pass-hit e l g =
+        let t = and-true (holds (getD ms e 0) a) (holds (getD ms e 0) b) g in
+        F .pass .answer
+        ∙ record-hit closes f n i (F .more)
+        (closes-is ∙ joined-is (before f i) (suc a) (suc b) .1 (closing (before f i) (λ e. getD ms e 0) (s .count) (F .pass .keeps) a b e l (t .0) (t .1)))
 
     -- none of the sets does
     module _ (clear : (e : ℕ) → e < s .count → (holds (getD ms e 0) a && holds (getD ms e 0) b) ≡ false) where
       apart : Joined (before f i) (suc a) (suc b) → ⊥
-      apart = not-closing (before f i) (λ e. getD ms e 0) (s .count) (P .keeps) a b (λ z. omega (arith, fits .below, low, high)) clear
+      apart = not-closing (before f i) (λ e. getD ms e 0) (s .count) (F .pass .keeps) a b (λ z. omega (arith, fits .below, low, high)) clear
 
       no-ring : Ringless (linkRead x y c ∷ before f i)
-      no-ring = (λ j. apart (subst₂ (Joined (before f i)) low high j), P .ringless)
+      no-ring = (λ j. apart (subst₂ (Joined (before f i)) low high j), F .pass .ringless)
 
       -- there is room for one more
       pub room : s .count < 31
-      room = omega (arith, few 32 (linkRead x y c ∷ before f i) (omega arith) ((fits .low, fits .below, fits .high), before-within f i) no-ring, P .counted)
+      room = omega (arith, few 32 (linkRead x y c ∷ before f i) (omega arith) ((fits .low, fits .below, fits .high), before-within f i) no-ring, F .pass .counted)
 
       not-closed : closes (earlier f i) (entryAt f i) ≡ false
       not-closed = closes-is ∙ go (either (joined (before f i) (suc a) (suc b)))
@@ -147,21 +152,21 @@ module _ (f ms : List ℕ) (s : Links) (n i : ℕ) (P : Pass f ms s n i) (h : i 
 
       one-more : linkRead x y c ∷ before f i ≡ before f (i + 1)
       unfolding earlier linksOf
-      one-more = rw (add-one i, link-here f i n r h is x y c at) refl
+      one-more = rw (add-one i, link-here f i n (Reading.Link x y c) (F .more) (F .reading) x y c refl) refl
 
       pub pass-link : (ms′ : List ℕ) (t : Links) (m : ℕ) → m ≡ gather (λ e. getD ms e 0) a b (s .count) → Merged (λ e. getD ms e 0) (λ e. getD ms′ e 0) (s .count) a b m
           → Fair t × (t .count ≡ s .count + 1) × (kept t ≡ kept s ++ (linkRead x y c ∷ [])) → Pass f ms′ t n (i + 1)
       pass-link ms′ t m g M w = record {
-        answer = P .answer ∙ record-miss closes f n i h not-closed;
-        counted = w .1 ∙ add-one (s .count) ∙ ap suc (P .counted) ∙ ap length one-more;
+        answer = F .pass .answer ∙ record-miss closes f n i (F .more) not-closed;
+        counted = w .1 ∙ add-one (s .count) ∙ ap suc (F .pass .counted) ∙ ap length one-more;
         ringless = subst Ringless one-more no-ring;
         keeps =
             subst₂ (λ (ls : List Link) (k : ℕ). Keeps ls (λ e. getD ms′ e 0) k) one-more (sym (w .1 ∙ add-one (s .count)))
-            (keeps-more (before f i) (linkRead x y c) a b low high (λ e. getD ms e 0) (λ e. getD ms′ e 0) (s .count) (P .keeps)
+            (keeps-more (before f i) (linkRead x y c) a b low high (λ e. getD ms e 0) (λ e. getD ms′ e 0) (s .count) (F .pass .keeps)
             (subst (Merged (λ e. getD ms e 0) (λ e. getD ms′ e 0) (s .count) a b) g M));
         fair = w .0;
         stored =
-            P .stored ∙ ap (λ (ls : List Link). kept s ++ ls) (links-here f i n r h is x y c at)
+            F .pass .stored ∙ ap (λ (ls : List Link). kept s ++ ls) (links-here f i n (Reading.Link x y c) (F .more) (F .reading) x y c refl)
             ∙ sym (append-assoc (kept s) (linkRead x y c ∷ []) (linksOf (entriesFrom f (i + 1) (n - (i + 1)))))
             ∙ ap (λ (ls : List Link). ls ++ linksOf (entriesFrom f (i + 1) (n - (i + 1)))) (sym (w .2));
       }

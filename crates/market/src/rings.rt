@@ -14,8 +14,10 @@ use crate::links::Line;
 use crate::links::Links;
 use crate::links::no_links;
 use crate::links::with_link;
-use network::parts::Joining;
-use network::parts::joined;
+use network::bits::join;
+use network::bits::only;
+use network::parts::gathered;
+use network::parts::holds_both;
 use network::parts::merged;
 use records::Reading;
 
@@ -25,6 +27,8 @@ pub struct Read {
     pub links: Links,
 }
 
+// For each earlier link the members of its part are kept as a set. A link closes a ring if one of the sets holds both its
+// ends; else the sets that hold one of them become one.
 pub fn read_links(file: &[u8]) -> Read
     requires { ⌜ length (now file) ≤ fileLimit ⌝ }
     ensures { λ r. ⌜ (r .closing ≡ placeOf (firstRecord closes 0 [] (entries (now (file .entry))))) × Fair (r .links) × (r .closing ≡ nowhere → kept (r .links) ≡ linksOf (entries (now (file .entry)))) ⌝ }
@@ -33,7 +37,10 @@ pub fn read_links(file: &[u8]) -> Read
     let mut links = no_links();
     let mut parts = [0u32; 31];
     let mut i: usize = 0;
-    while i < n {
+    let closing = 'scan: loop {
+        if i == n {
+            break Place::Nowhere;
+        }
         let r = records::read_at(file, i);
         let Reading::Link(x, y, c) = r else {
             i += 1;
@@ -41,12 +48,19 @@ pub fn read_links(file: &[u8]) -> Read
         };
         let a = x.index();
         let b = y.index();
-        let joining = joined(parts, links.count, a, b);
-        let Joining::Part(m) = joining else {
-            let closing = Place::At(i as u16);
-            return Read { closing, links };
-        };
-        let next = merged(parts, links.count, a, b, m);
+        let count = links.count;
+        let mut m = join(only(a), only(b));
+        let mut e: usize = 0;
+        while e < count {
+            let old = parts[e];
+            if holds_both(old, a, b) {
+                let at = i as u16;
+                break 'scan Place::At(at);
+            }
+            m = gathered(m, old, a, b);
+            e += 1;
+        }
+        let next = merged(parts, count, a, b, m);
         parts = next;
         let line = Line {
             a: x,
@@ -56,7 +70,6 @@ pub fn read_links(file: &[u8]) -> Read
         let more = with_link(links, line);
         links = more;
         i += 1;
-    }
-    let closing = Place::Nowhere;
+    };
     Read { closing, links }
 }

@@ -21,10 +21,7 @@ use Rattle.problem.proofs.Links.{Ends, joins-ends}
 use Rattle.problem.proofs.Labels.{lab, Lab, lab-cases, lab-a, lab-b, lab-more, lab-joined, open-few}
 use Rattle.problem.proofs.Count.{same?}
 use Rattle.network.specs.inner.Sets.{holds}
-use Rattle.network.specs.inner.Parts.{touches, gather, Joins, Merged}
-use Rattle.network.specs.inner.Parts.Joins.{ring, part}
-use Rattle.network.specs.declared.parts.Joining.{Joining}
-use Rattle.network.specs.declared.parts.Joining.the-variants as Joining
+use Rattle.network.specs.inner.Parts.{touches, gather, Merged}
 use Rattle.network.proofs.Bit.{holds-or, holds-one}
 
 -- ---- members that are joined have the same label
@@ -294,19 +291,6 @@ searched-more ms a b m m′ e f q S = record {
   gathers = q ∙ ap (λ (x : ℕ). cond (touches (getD ms e 0) a b) (bitOr x (getD ms e 0)) x) (S .gathers) ∙ ap (gather (λ i. getD ms i 0) a b) (sym (add-one e));
   clear = below-more _ e (S .clear) f;
 }
-
-pub searched-all : (ms : List ℕ) (a b m e k : ℕ) → e ≡ k → Searched ms a b m e → Joins (λ i. getD ms i 0) k a b (Joining.Part m)
-searched-all ms a b m e k q S = part m (λ i l. S .clear i (omega arith)) (S .gathers ∙ ap (gather (λ i. getD ms i 0) a b) q)
-
--- what an answer says
-module _ (ms : ℕ → ℕ) (k a b : ℕ) where
-  pub part-is : (m : ℕ) {r : Joining} → Joins ms k a b r → r ≡ Joining.Part m → ((e : ℕ) → e < k → (holds (ms e) a && holds (ms e) b) ≡ false) × (m ≡ gather ms a b k)
-  part-is m (ring e l h) q = let z : _≡_ {A = ℕ} 0 1 = cc in absurd (omega arith)
-  part-is m (part x c e) q = let s : x ≡ m = cc in (c, sym s ∙ e)
-
-  pub ring-is : {r : Joining} → Joins ms k a b r → r ≡ Joining.Ring → (e : ℕ) × (e < k) × ((holds (ms e) a && holds (ms e) b) ≡ true)
-  ring-is (ring e l h) q = (e, l, h)
-  ring-is (part m c e) q = let z : _≡_ {A = ℕ} 0 1 = cc in absurd (omega arith)
 
 -- ---- a pass over the sets: those below e are done, the others as they were
 pub record Merging (o₀ o : List ℕ) (e a b m : ℕ) : Type 0 where

@@ -2,22 +2,15 @@
 // both its ends; else the sets that hold one of them become one.
 ghost use mathlib.Core.Path.{_≡_};
 ghost use mathlib.Core.Bool.{cond, _&&_};
-ghost use Prim.Native.Nat.{_<_, _≤_};
+ghost use Prim.Native.Nat.{_<_};
 ghost use lib.ListN.{getD};
 ghost use lib.Bits.{bitOr};
 ghost use Rattle.network.specs.inner.Sets.{holds};
-ghost use Rattle.network.specs.inner.Parts.{touches, Joins, Merged};
+ghost use Rattle.network.specs.inner.Parts.{touches, Merged};
 use crate::bits::has;
 use crate::bits::join;
-use crate::bits::only;
 
-// What a new link does: it closes a ring, or its part is this set.
-pub enum Joining {
-    Ring,
-    Part(u32),
-}
-
-fn holds_both(old: u32, a: usize, b: usize) -> bool
+pub fn holds_both(old: u32, a: usize, b: usize) -> bool
     requires { ⌜ (a < 32) × (b < 32) ⌝ }
     ensures { λ r. ⌜ r ≡ (holds old a && holds old b) ⌝ }
 {
@@ -32,7 +25,7 @@ fn touched(old: u32, a: usize, b: usize) -> bool
 }
 
 // The set m with the members of old, where old holds a or b.
-fn gathered(m: u32, old: u32, a: usize, b: usize) -> u32
+pub fn gathered(m: u32, old: u32, a: usize, b: usize) -> u32
     requires { ⌜ (a < 32) × (b < 32) ⌝ }
     ensures { λ r. ⌜ r ≡ cond (touches old a b) (bitOr m old) m ⌝ }
 {
@@ -45,24 +38,6 @@ fn replaced(m: u32, old: u32, a: usize, b: usize) -> u32
     ensures { λ r. ⌜ r ≡ cond (touches old a b) m old ⌝ }
 {
     if touched(old, a, b) { m } else { old }
-}
-
-// What a link between a and b does to the parts of the links so far.
-pub fn joined(parts: [u32; 31], count: usize, a: usize, b: usize) -> Joining
-    requires { ⌜ (a < 32) × (b < 32) × (count ≤ 31) ⌝ }
-    ensures { λ r. ⌜ Joins (λ e. getD parts e 0) count a b r ⌝ }
-{
-    let mut m = join(only(a), only(b));
-    let mut e: usize = 0;
-    while e < count {
-        let old = parts[e];
-        if holds_both(old, a, b) {
-            return Joining::Ring;
-        }
-        m = gathered(m, old, a, b);
-        e += 1;
-    }
-    Joining::Part(m)
 }
 
 // The parts with those of a and b made one, m, which is also the new link's.

@@ -1,11 +1,9 @@
 -- For each link the set of the members of its part, and what a new link between a and b does to these sets.
 use mathlib.Core.Path.{_≡_}
-use mathlib.Core.Bool.{Bool, true, false, cond, _&&_, _||_}
+use mathlib.Core.Bool.{Bool, cond, _||_}
 use Prim.Native.Nat.{ℕ, zero, suc, _^_, _<_}
 use lib.Bits.{bitOr}
 use Rattle.network.specs.inner.Sets.{holds}
-use Rattle.network.specs.declared.parts.Joining.{Joining}
-use Rattle.network.specs.declared.parts.Joining.the-variants as Joining
 
 -- the set m holds an end
 abbrev pub touches : ℕ → ℕ → ℕ → Bool
@@ -15,11 +13,6 @@ touches m a b = holds m a || holds m b
 unfoldable pub gather : (ℕ → ℕ) → ℕ → ℕ → ℕ → ℕ
 gather ms a b zero = bitOr (2 ^ a) (2 ^ b)
 gather ms a b (suc e) = cond (touches (ms e) a b) (bitOr (gather ms a b e) (ms e)) (gather ms a b e)
-
--- one of the k sets holds both ends; or none does, and the part is what they gather
-pub data Joins (ms : ℕ → ℕ) (k a b : ℕ) : Joining → Type 0 where
-  ring : (e : ℕ) → e < k → (holds (ms e) a && holds (ms e) b) ≡ true → Joins ms k a b Joining.Ring
-  part : (m : ℕ) → ((e : ℕ) → e < k → (holds (ms e) a && holds (ms e) b) ≡ false) → m ≡ gather ms a b k → Joins ms k a b (Joining.Part m)
 
 -- a set that holds an end becomes m, and m is the new link's
 pub record Merged (ms ms′ : ℕ → ℕ) (k a b m : ℕ) : Type 0 where
