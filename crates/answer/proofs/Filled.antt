@@ -1,5 +1,5 @@
 -- An area filled from its start with lists one after the other, each into the part that is lent from the first free
--- place on. Assumes nothing.
+-- position on. Assumes nothing.
 use mathlib.Core.Path.{_≡_, refl, sym, ap, ap₂, _∙_}
 use mathlib.Core.List.{List, [], _++_, append-assoc, append-nil}
 use Prim.Native.Nat.{ℕ, suc, _+_, _-_, _≤_}

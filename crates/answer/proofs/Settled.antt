@@ -31,19 +31,19 @@ use Rattle.records.specs.Records.{entries}
 use Rattle.records.specs.Market.{offersOf}
 use Rattle.records.specs.Answer.{orZero, each, memberBytes, memberRecord, linkRecord, between, totalRecord, answerOf}
 use Rattle.records.proofs.Written.{member-8, each-same, each-8, links-length, ends-other}
-use Rattle.answer.specs.inner.Words.{Settles, placeOf, Placed, jointOf, fromLower, jointBytes, linkBy, linksBy, memberBy, Fitting}
+use Rattle.answer.specs.inner.Words.{Settles, positionIn, Positioned, jointOf, fromLower, jointBytes, linkBy, linksBy, memberBy, Fitting}
 use Rattle.answer.proofs.Sizes.{size-from-lower}
 
 -- ---- a member's record
 
-pub member-by : (table place : List ℕ) (net : List Units) (i : ℕ) {j : ℕ} {x v : ℤ} → j ≡ i + 1 → x ≡ unitsIn net (getD place i 0) → v ≡ orZero (value (offersOf (entries table)) j x)
-    → memberBytes j x v ≡ memberBy table place net (i + 1)
+pub member-by : (table position : List ℕ) (net : List Units) (i : ℕ) {j : ℕ} {x v : ℤ} → j ≡ i + 1 → x ≡ unitsIn net (getD position i 0) → v ≡ orZero (value (offersOf (entries table)) j x)
+    → memberBytes j x v ≡ memberBy table position net (i + 1)
 unfolding memberBy
-member-by table place net i e p q = let k : i + 1 - 1 ≡ i = omega arith in rw (q, p, e, k)
+member-by table position net i e p q = let k : i + 1 - 1 ≡ i = omega arith in rw (q, p, e, k)
 
-pub members-length : (table place : List ℕ) (net : List Units) (n : ℕ) → length (each n (memberBy table place net)) ≡ 8 * n
+pub members-length : (table position : List ℕ) (net : List Units) (n : ℕ) → length (each n (memberBy table position net)) ≡ 8 * n
 unfolding memberBy
-members-length table place net n = each-8 n (memberBy table place net) (λ j. member-8 j _ _)
+members-length table position net n = each-8 n (memberBy table position net) (λ j. member-8 j _ _)
 
 -- ---- the record between two members
 
@@ -178,30 +178,30 @@ module _ {m : Market} {ys : List ℤ} {table : List ℕ} {f : Feeder} {net sent 
   reached (suc d) c p l x y n t e =
       subst₂ (λ (u v : ℕ). ltb u v ≡ t → Over (suc d) u v t) x y (over d (omega (arith, one-fewer m R)) t) e
 
-  module _ {place : List ℕ} (Q : Placed f place) where
+  module _ {position : List ℕ} (Q : Positioned f position) where
     -- ---- members and their positions
 
-    place-member : (i : ℕ) → i < m .members → placeOf place (member m i) ≡ i
-    place-member i l = let k : i < f .members = omega (arith, count) in ap (placeOf place) (sym (S .laid .member-is i k)) ∙ Q .at i k
+    place-member : (i : ℕ) → i < m .members → positionIn position (member m i) ≡ i
+    place-member i l = let k : i < f .members = omega (arith, count) in ap (positionIn position) (sym (S .laid .member-is i k)) ∙ Q .at i k
 
-    placed : (a : ℕ) → 1 ≤ a → a ≤ m .members → (placeOf place a < m .members) × (member m (placeOf place a) ≡ a)
-    placed = each-member m R (λ a. (placeOf place a < m .members) × (member m (placeOf place a) ≡ a)) (λ i l. (omega (arith, place-member i l), ap (member m) (place-member i l)))
+    placed : (a : ℕ) → 1 ≤ a → a ≤ m .members → (positionIn position a < m .members) × (member m (positionIn position a) ≡ a)
+    placed = each-member m R (λ a. (positionIn position a < m .members) × (member m (positionIn position a) ≡ a)) (λ i l. (omega (arith, place-member i l), ap (member m) (place-member i l)))
 
-    members-same : each (f .members) (memberBy table place net) ≡ each (m .members) (memberRecord m ys)
+    members-same : each (f .members) (memberBy table position net) ≡ each (m .members) (memberRecord m ys)
     unfolding memberBy memberRecord
     members-same =
         rw count
-        (each-same (m .members) (memberBy table place net) (memberRecord m ys) (λ j p q.
+        (each-same (m .members) (memberBy table position net) (memberRecord m ys) (λ j p q.
         let a = placed j p q in
-        let l : placeOf place j < f .members = omega (arith, count, a .0) in
-        let e : unitsIn net (placeOf place j) ≡ P.net j (m .links) ys =
-        S .nets (placeOf place j) l ∙ ap (λ (k : ℕ). P.net k (m .links) ys) (S .laid .member-is (placeOf place j) l ∙ a .1) in
+        let l : positionIn position j < f .members = omega (arith, count, a .0) in
+        let e : unitsIn net (positionIn position j) ≡ P.net j (m .links) ys =
+        S .nets (positionIn position j) l ∙ ap (λ (k : ℕ). P.net k (m .links) ys) (S .laid .member-is (positionIn position j) l ∙ a .1) in
         rw (e, S .tables)))
 
     -- ---- links
 
     -- one end of each link was reached from the other: no link joins two members where neither was
-    unlinked : (a b : ℕ) → (parentAt f (placeOf place b) ≡ placeOf place a → ⊥) → (parentAt f (placeOf place a) ≡ placeOf place b → ⊥)
+    unlinked : (a b : ℕ) → (parentAt f (positionIn position b) ≡ positionIn position a → ⊥) → (parentAt f (positionIn position a) ≡ positionIn position b → ⊥)
         → (e : ℕ) → e < E → linkAt (m .links) e .a ≡ a → linkAt (m .links) e .b ≡ b → ⊥
     unlinked a b not-b not-a e l p q = go (either (lowerOf m (suc d)))
       where
@@ -217,32 +217,32 @@ module _ {m : Market} {ys : List ℤ} {table : List ℕ} {f : Feeder} {net sent 
         high : linkAt (m .links) (linkOf m (suc d)) .b ≡ b
         high = ap (λ (x : ℕ). linkAt (m .links) x .b) (arranged m R .link-reached e l) ∙ q
 
-        from : (u v : ℕ) → member m (suc d) ≡ u → member m (parent m (suc d)) ≡ v → parentAt f (placeOf place u) ≡ placeOf place v
+        from : (u v : ℕ) → member m (suc d) ≡ u → member m (parent m (suc d)) ≡ v → parentAt f (positionIn position u) ≡ positionIn position v
         from u v x y =
-            ap (λ (k : ℕ). parentAt f (placeOf place k)) (sym x) ∙ ap (parentAt f) (place-member (suc d) (omega (arith, h, one-fewer m R))) ∙ S .laid .parent-is (suc d)
-            ∙ sym (ap (placeOf place) (sym y) ∙ place-member (parent m (suc d)) (omega (arith, h, one-fewer m R, arranged m R .rising (suc d) (omega arith))))
+            ap (λ (k : ℕ). parentAt f (positionIn position k)) (sym x) ∙ ap (parentAt f) (place-member (suc d) (omega (arith, h, one-fewer m R))) ∙ S .laid .parent-is (suc d)
+            ∙ sym (ap (positionIn position) (sym y) ∙ place-member (parent m (suc d)) (omega (arith, h, one-fewer m R, arranged m R .rising (suc d) (omega arith))))
 
         go : (lowerOf m (suc d) ≡ true) ⊎ (lowerOf m (suc d) ≡ false) → ⊥
         go (inl t) = not-a (from a b (sym (low-end m R d h true t) ∙ low) (sym (high-end m R d h true t) ∙ high))
         go (inr t) = not-b (from b a (sym (high-end m R d h false t) ∙ high) (sym (low-end m R d h false t) ∙ low))
 
     -- c was reached from p, two members
-    over-between : (c p : ℕ) → 1 ≤ c → c ≤ m .members → 1 ≤ p → p ≤ m .members → (c ≡ p → ⊥) → parentAt f (placeOf place c) ≡ placeOf place p
-        → (t : Bool) → ltb c p ≡ t → Over (placeOf place c) c p t
+    over-between : (c p : ℕ) → 1 ≤ c → c ≤ m .members → 1 ≤ p → p ≤ m .members → (c ≡ p → ⊥) → parentAt f (positionIn position c) ≡ positionIn position p
+        → (t : Bool) → ltb c p ≡ t → Over (positionIn position c) c p t
     over-between c p lc hc lp hp n e =
         let i = placed c lc hc in
         let k = placed p lp hp in
-        reached (placeOf place c) c p (i .0) (i .1) (ap (member m) (sym (S .laid .parent-is (placeOf place c)) ∙ e) ∙ k .1) n
+        reached (positionIn position c) c p (i .0) (i .1) (ap (member m) (sym (S .laid .parent-is (positionIn position c)) ∙ e) ∙ k .1) n
 
     -- the record of two members' link
-    link-right : (a b : ℕ) → 1 ≤ a → a ≤ m .members → 1 ≤ b → b ≤ m .members → linkBy f place sent a b ≡ between (m .links) ys a b
+    link-right : (a b : ℕ) → 1 ≤ a → a ≤ m .members → 1 ≤ b → b ≤ m .members → linkBy f position sent a b ≡ between (m .links) ys a b
     unfolding linkBy jointOf jointBytes
-    link-right a b pa qa pb qb = sym (go (either (ltb a b)) (same? (parentAt f (placeOf place b)) (placeOf place a)) (same? (parentAt f (placeOf place a)) (placeOf place b)))
+    link-right a b pa qa pb qb = sym (go (either (ltb a b)) (same? (parentAt f (positionIn position b)) (positionIn position a)) (same? (parentAt f (positionIn position a)) (positionIn position b)))
       where
         go : (ltb a b ≡ true) ⊎ (ltb a b ≡ false)
-            → ((parentAt f (placeOf place b) ≡ placeOf place a) × (eqb (parentAt f (placeOf place b)) (placeOf place a) ≡ true)) ⊎ ((parentAt f (placeOf place b) ≡ placeOf place a → ⊥) × (eqb (parentAt f (placeOf place b)) (placeOf place a) ≡ false))
-            → ((parentAt f (placeOf place a) ≡ placeOf place b) × (eqb (parentAt f (placeOf place a)) (placeOf place b) ≡ true)) ⊎ ((parentAt f (placeOf place a) ≡ placeOf place b → ⊥) × (eqb (parentAt f (placeOf place a)) (placeOf place b) ≡ false))
-            → between (m .links) ys a b ≡ jointBytes f sent a b (jointOf (f .parent) place a b)
+            → ((parentAt f (positionIn position b) ≡ positionIn position a) × (eqb (parentAt f (positionIn position b)) (positionIn position a) ≡ true)) ⊎ ((parentAt f (positionIn position b) ≡ positionIn position a → ⊥) × (eqb (parentAt f (positionIn position b)) (positionIn position a) ≡ false))
+            → ((parentAt f (positionIn position a) ≡ positionIn position b) × (eqb (parentAt f (positionIn position a)) (positionIn position b) ≡ true)) ⊎ ((parentAt f (positionIn position a) ≡ positionIn position b → ⊥) × (eqb (parentAt f (positionIn position a)) (positionIn position b) ≡ false))
+            → between (m .links) ys a b ≡ jointBytes f sent a b (jointOf (f .parent) position a b)
         go (inr t) u v =
             rw t (between-none (m .links) ys a b (λ e l p q. omega (arith, within-at (m .members) (m .links) (R .within) e l .1, ltb-false a b t)))
         go (inl t) (inl u) v =
@@ -253,19 +253,19 @@ module _ {m : Market} {ys : List ℤ} {table : List ℕ} {f : Feeder} {net sent 
             rw (t, u .1, v .1) (over-between a b pa qa pb qb (λ e. omega arith) (v .0) true t)
         go (inl t) (inr u) (inr v) = rw (t, u .1, v .1) (between-none (m .links) ys a b (unlinked a b (u .0) (v .0)))
 
-    links-same : linksBy f place sent ≡ each (m .members) (λ a. each (m .members) (between (m .links) ys a))
+    links-same : linksBy f position sent ≡ each (m .members) (λ a. each (m .members) (between (m .links) ys a))
     unfolding linksBy
     links-same =
-        ap (λ (n : ℕ). each n (λ a. each n (linkBy f place sent a))) count
-        ∙ each-same (m .members) (λ a. each (m .members) (linkBy f place sent a)) (λ a. each (m .members) (between (m .links) ys a)) (λ a p q.
-        each-same (m .members) (linkBy f place sent a) (between (m .links) ys a) (λ b r s. link-right a b p q r s))
+        ap (λ (n : ℕ). each n (λ a. each n (linkBy f position sent a))) count
+        ∙ each-same (m .members) (λ a. each (m .members) (linkBy f position sent a)) (λ a. each (m .members) (between (m .links) ys a)) (λ a p q.
+        each-same (m .members) (linkBy f position sent a) (between (m .links) ys a) (λ b r s. link-right a b p q r s))
 
     -- ---- the answer
 
-    pub answer-is : (t : ℤ) → each (f .members) (memberBy table place net) ++ linksBy f place sent ++ totalRecord t ≡ answerOf m ys t
+    pub answer-is : (t : ℤ) → each (f .members) (memberBy table position net) ++ linksBy f position sent ++ totalRecord t ≡ answerOf m ys t
     unfolding answerOf
     answer-is t = rw (members-same, links-same)
 
     -- the links' records fill the answer's middle part
-    pub links-room : length (linksBy f place sent) ≡ 8 * (f .members - 1)
+    pub links-room : length (linksBy f position sent) ≡ 8 * (f .members - 1)
     links-room = ap length links-same ∙ links-length m R ys (as-many (S .within)) ∙ ap (λ (k : ℕ). 8 * (k - 1)) (sym count)

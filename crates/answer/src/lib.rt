@@ -11,7 +11,7 @@ ghost use Rattle.problem.specs.Problem.{Market};
 ghost use Rattle.network.specs.inner.Feeders.{Sound};
 ghost use Rattle.records.specs.Answer.{orZero, each, answerOf};
 ghost use Rattle.rows.specs.inner.Rows.{worthOf};
-ghost use Rattle.answer.specs.inner.Words.{Settles, Placed, memberBy};
+ghost use Rattle.answer.specs.inner.Words.{Settles, Positioned, memberBy};
 use network::Feeder;
 use numbers::Member;
 use numbers::Price;
@@ -22,18 +22,18 @@ mod links;
 mod put;
 
 // The position of each member, member 1's first.
-fn places(feeder: Feeder) -> [u8; 32]
+fn positions(feeder: Feeder) -> [u8; 32]
     requires { ⌜ Sound feeder ⌝ }
-    ensures { λ r. ⌜ Placed feeder r ⌝ }
+    ensures { λ r. ⌜ Positioned feeder r ⌝ }
 {
-    let mut place = [0u8; 32];
+    let mut position = [0u8; 32];
     let mut i: u8 = 0;
     while i < feeder.members {
         let member = feeder.member[i as usize];
-        place[member.index()] = i;
+        position[member.index()] = i;
         i += 1;
     }
-    place
+    position
 }
 
 // A value as the price that stands in a record: in an allocation that is possible every member has one.
@@ -47,16 +47,22 @@ fn price_of(value: Worth) -> Price
 }
 
 // The members' records, with the value that each member's table gives for its net.
-fn write_members(records: &[u8], feeder: Feeder, place: [u8; 32], net: [Units; 32], out: &mut [u8])
-    requires { ⌜ Sound feeder × Placed feeder place × (8 * feeder .members ≤ length (now out)) ⌝ }
-    ensures { λ _. ⌜ now (out .exit) ≡ each (feeder .members) (memberBy (now (records .entry)) place net) ++ drop (8 * feeder .members) (now (out .entry)) ⌝ }
+fn write_members(
+    records: &[u8],
+    feeder: Feeder,
+    position: [u8; 32],
+    net: [Units; 32],
+    out: &mut [u8],
+)
+    requires { ⌜ Sound feeder × Positioned feeder position × (8 * feeder .members ≤ length (now out)) ⌝ }
+    ensures { λ _. ⌜ now (out .exit) ≡ each (feeder .members) (memberBy (now (records .entry)) position net) ++ drop (8 * feeder .members) (now (out .entry)) ⌝ }
 {
     let members = feeder.members as usize;
     let mut at: usize = 0;
     let mut i: usize = 0;
     while i < members {
         let j = Member::at(i);
-        let x = net[place[i] as usize];
+        let x = net[position[i] as usize];
         i += 1;
         let value = price_of(rows::value_of(records, j, x));
         put::put_member(&mut out[at..], j, x, value);
@@ -77,11 +83,11 @@ pub fn write(
     requires room { ⌜ 16 * feeder .members ≤ length (now answer) ⌝ }
     ensures { λ _. ⌜ ((m : Market) (ys : List ℤ) → Settles m ys (now (records .entry)) feeder net sent → now (answer .exit) ≡ answerOf m ys (total .0) ++ drop (16 * feeder .members) (now (answer .entry))) ⌝ }
 {
-    let place = places(feeder);
-    write_members(records, feeder, place, net, answer);
+    let position = positions(feeder);
+    write_members(records, feeder, position, net, answer);
     let members = feeder.members as usize;
     let from = 8 * members;
     let to = 16 * members - 8;
-    links::write_links(feeder, place, sent, &mut answer[from..to]);
+    links::write_links(feeder, position, sent, &mut answer[from..to]);
     put::put_total(&mut answer[to..], total);
 }

@@ -6,7 +6,7 @@ ghost use lib.ListN.{length, getD, drop};
 ghost use lib.IntN.{natAbs};
 ghost use Rattle.network.specs.inner.Feeders.{Sound};
 ghost use Rattle.records.specs.Answer.{each};
-ghost use Rattle.answer.specs.inner.Words.{jointOf, fromLower, linkBy, linksBy, Placed, Fitting, Filled};
+ghost use Rattle.answer.specs.inner.Words.{jointOf, fromLower, linkBy, linksBy, Positioned, Fitting, Filled};
 use crate::put::put_link;
 use network::Feeder;
 use numbers::Member;
@@ -19,15 +19,15 @@ pub enum Joint {
 }
 
 // The link from a to b.
-fn link_between(parent: [u8; 32], place: [u8; 32], a: Member, b: Member) -> Joint
-    requires { ⌜ (1 ≤ a .0) × (a .0 ≤ 32) × (1 ≤ b .0) × (b .0 ≤ 32) × ((j : ℕ) → getD place j 0 < 32) ⌝ }
-    ensures { λ r. ⌜ r ≡ jointOf parent place (a .0) (b .0) ⌝ }
+fn link_between(parent: [u8; 32], position: [u8; 32], a: Member, b: Member) -> Joint
+    requires { ⌜ (1 ≤ a .0) × (a .0 ≤ 32) × (1 ≤ b .0) × (b .0 ≤ 32) × ((j : ℕ) → getD position j 0 < 32) ⌝ }
+    ensures { λ r. ⌜ r ≡ jointOf parent position (a .0) (b .0) ⌝ }
 {
     if !a.below(b) {
         return Joint::Apart;
     }
-    let lower = place[a.index()];
-    let higher = place[b.index()];
+    let lower = position[a.index()];
+    let higher = position[b.index()];
     if parent[higher as usize] == lower {
         return Joint::Over(higher, false);
     }
@@ -51,14 +51,14 @@ fn from_lower(lower: bool, sent: Units) -> Units
 // The records of member a's links to higher members, in their order. Gives the number of bytes written.
 fn write_links_of(
     feeder: Feeder,
-    place: [u8; 32],
+    position: [u8; 32],
     sent: [Units; 32],
     a: Member,
     out: &mut [u8],
 ) -> usize
-    requires feeder { ⌜ Sound feeder × Placed feeder place × Fitting feeder sent ⌝ }
-    requires room { ⌜ (1 ≤ a .0) × (a .0 ≤ feeder .members) × (length (each (feeder .members) (linkBy feeder place sent (a .0))) ≤ length (now out)) ⌝ }
-    ensures { λ r. ⌜ Filled (linkBy feeder place sent (a .0)) (feeder .members) (now (out .entry)) r (now (out .exit)) ⌝ }
+    requires feeder { ⌜ Sound feeder × Positioned feeder position × Fitting feeder sent ⌝ }
+    requires room { ⌜ (1 ≤ a .0) × (a .0 ≤ feeder .members) × (length (each (feeder .members) (linkBy feeder position sent (a .0))) ≤ length (now out)) ⌝ }
+    ensures { λ r. ⌜ Filled (linkBy feeder position sent (a .0)) (feeder .members) (now (out .entry)) r (now (out .exit)) ⌝ }
 {
     let members = feeder.members as usize;
     let mut at: usize = 0;
@@ -66,11 +66,11 @@ fn write_links_of(
     while i < members {
         let b = Member::at(i);
         i += 1;
-        let Joint::Over(position, lower) = link_between(feeder.parent, place, a, b) else {
+        let Joint::Over(reached, lower) = link_between(feeder.parent, position, a, b) else {
             continue;
         };
-        let capacity = feeder.toward[position as usize];
-        let flow = from_lower(lower, sent[position as usize]);
+        let capacity = feeder.toward[reached as usize];
+        let flow = from_lower(lower, sent[reached as usize]);
         put_link(&mut out[at..], a, b, capacity, flow);
         at += 8;
     }
@@ -78,10 +78,10 @@ fn write_links_of(
 }
 
 // The records of all links.
-pub fn write_links(feeder: Feeder, place: [u8; 32], sent: [Units; 32], out: &mut [u8])
-    requires feeder { ⌜ Sound feeder × Placed feeder place × Fitting feeder sent ⌝ }
-    requires room { ⌜ length (linksBy feeder place sent) ≤ length (now out) ⌝ }
-    ensures { λ _. ⌜ now (out .exit) ≡ linksBy feeder place sent ++ drop (length (linksBy feeder place sent)) (now (out .entry)) ⌝ }
+pub fn write_links(feeder: Feeder, position: [u8; 32], sent: [Units; 32], out: &mut [u8])
+    requires feeder { ⌜ Sound feeder × Positioned feeder position × Fitting feeder sent ⌝ }
+    requires room { ⌜ length (linksBy feeder position sent) ≤ length (now out) ⌝ }
+    ensures { λ _. ⌜ now (out .exit) ≡ linksBy feeder position sent ++ drop (length (linksBy feeder position sent)) (now (out .entry)) ⌝ }
 {
     let members = feeder.members as usize;
     let mut at: usize = 0;
@@ -89,7 +89,7 @@ pub fn write_links(feeder: Feeder, place: [u8; 32], sent: [Units; 32], out: &mut
     while i < members {
         let a = Member::at(i);
         i += 1;
-        let wrote = write_links_of(feeder, place, sent, a, &mut out[at..]);
+        let wrote = write_links_of(feeder, position, sent, a, &mut out[at..]);
         at += wrote;
     }
 }

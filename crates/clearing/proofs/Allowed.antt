@@ -6,7 +6,7 @@ use native.Mathlib.Omega.{arith}
 use lib.ListN.{length}
 use Rattle.records.proofs.Allowed.{IfAllowed, placed-if, refusal-allowed, first-allowed}
 use Rattle.market.proofs.Top.{market-few}
-use Rattle.market.proofs.Allowed.{fault-allowed}
+use Rattle.market.proofs.Allowed.{file-allowed}
 use Rattle.clearing.specs.Outcome.{code}
 use Rattle.clearing.specs.Outcome.Outcome.{nothing, cleared}
 use Rattle.clearing.specs.Promise.{tooShort, refusalOf, Result}
@@ -16,7 +16,7 @@ use Rattle.clearing.specs.Promise.Result.{refused, settled}
 refusal-11 : (file : List ℕ) (room : ℕ) → IfAllowed (refusalOf file room)
 unfolding refusalOf tooShort
 refusal-11 file room =
-    first-allowed _ _ (fault-allowed file) (λ e. refusal-allowed _ _ (λ q. omega (arith, q)) (placed-if _ _ (λ t. omega (arith, market-few file))))
+    first-allowed _ _ (file-allowed file) (λ e. refusal-allowed _ _ (λ q. omega (arith, q)) (placed-if _ _ (λ t. omega (arith, market-few file))))
 
 -- the number returned is not a code of refusal 8, at any place; a place has 16 bits
 pub never-8 : {file before after : List ℕ} {k : ℕ} → Result file before k after → (p : ℕ) → p < 65536 → k ≡ code (record { number = 8; place = p }) → ⊥

@@ -12,7 +12,7 @@ use Rattle.problem.proofs.Tree.{Tree}
 use Rattle.records.specs.Market.{marketOf}
 use Rattle.records.specs.Answer.{answerOf}
 use Rattle.records.proofs.Entries.{both-none}
-use Rattle.market.specs.Refusals.{faultOf}
+use Rattle.market.specs.Refusals.{fileRefusal}
 use Rattle.market.proofs.Sound.{sound-tree}
 use Rattle.clearing.specs.Outcome.{code, Outcome}
 use Rattle.clearing.specs.Outcome.Outcome.{nothing, cleared}
@@ -20,12 +20,12 @@ use Rattle.clearing.specs.Promise.{refusalOf, Result}
 use Rattle.clearing.specs.Promise.Result.{refused, settled}
 
 -- where nothing is refused up to 11, nothing is up to 10
-no-fault : (file : List ℕ) (room : ℕ) → refusalOf file room ≡ none → faultOf file ≡ none
+file-passes : (file : List ℕ) (room : ℕ) → refusalOf file room ≡ none → fileRefusal file ≡ none
 unfolding refusalOf
-no-fault file room e = both-none (faultOf file) _ e .0
+file-passes file room e = both-none (fileRefusal file) _ e .0
 
 tree-if : (file : List ℕ) (room : ℕ) → refusalOf file room ≡ none → Tree (marketOf file)
-tree-if file room e = sound-tree file (no-fault file room e)
+tree-if file room e = sound-tree file (file-passes file room e)
 
 -- a market on a tree has one outcome
 pub one-outcome : {m : Market} {before : List ℕ} {r r′ : ℕ} {a a′ : List ℕ} → Tree m → Outcome m before r a → Outcome m before r′ a′ → (r ≡ r′) × (a ≡ a′)

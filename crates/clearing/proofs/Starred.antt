@@ -17,7 +17,7 @@ use Rattle.records.specs.Market.{marketOf}
 use Rattle.records.specs.Market as M
 use Rattle.records.specs.Answer.{answerOf}
 use Rattle.records.specs.Answer as A
-use Rattle.market.specs.Refusals.{faultOf}
+use Rattle.market.specs.Refusals.{fileRefusal}
 use Rattle.market.specs.Refusals as F
 use Rattle.clearing.specs.Outcome.{code, noAllocation, Outcome}
 use Rattle.clearing.specs.Outcome.Outcome.{nothing, cleared}
@@ -27,7 +27,7 @@ use Rattle.clearing.specs.Starred as W
 use Rattle.clearing.proofs.Refused.{room-none}
 
 -- a row of n members that passes 1 to 10, and the flows and the total of its answer
-clears : (r : Row) (n : ℕ) (ys : List ℤ) (t : ℤ) → n ≤ 3 → faultOf (r .file) ≡ none → marketOf (r .file) .members ≡ n → S.best (marketOf (r .file)) ys t ≡ true
+clears : (r : Row) (n : ℕ) (ys : List ℤ) (t : ℤ) → n ≤ 3 → fileRefusal (r .file) ≡ none → marketOf (r .file) .members ≡ n → S.best (marketOf (r .file)) ys t ≡ true
     → answerOf (marketOf (r .file)) ys t ≡ r .written → length (r .written) ≡ 16 * n → 16 * n ≡ r .number → Right r
 clears r n ys t few sound members best bytes long number before room =
     let m : Market = marketOf (r .file) in
@@ -37,7 +37,7 @@ clears r n ys t few sound members best bytes long number before room =
     (ap (λ (bs : List ℕ). bs ++ drop (16 * m .members) before) bytes ∙ ap (λ (k : ℕ). r .written ++ drop k before) (ap (λ (k : ℕ). 16 * k) members ∙ sym long)) o)
 
 -- a row of n members that passes 1 to 10, and that no flows answer
-fails : (r : Row) (n : ℕ) → n ≤ 3 → faultOf (r .file) ≡ none → marketOf (r .file) .members ≡ n → S.nothing (marketOf (r .file)) ≡ true
+fails : (r : Row) (n : ℕ) → n ≤ 3 → fileRefusal (r .file) ≡ none → marketOf (r .file) .members ≡ n → S.nothing (marketOf (r .file)) ≡ true
     → r .written ≡ [] → code noAllocation ≡ r .number → Right r
 fails r n few sound members none-possible bytes number before room =
     let m : Market = marketOf (r .file) in
@@ -50,7 +50,7 @@ neg n = negℤ (pos n)
 
 -- the claim
 pub all-right : AllRight starred
-unfolding starred W.bytes W.chain W.A W.B W.C W.D W.E W.F W.G W.H W.I W.J W.K neg S.best S.nothing S.inRange S.isTotal S.noTotal S.allFlows S.allIn S.judge S.lexLe N.eqZ N.within B.linkOf B.offerOf B.entryAt B.entriesFrom B.entries R.refusal R._otherwise_ R.placeIf R.tooLong R.notWhole R.faulty R.unsound M.membersOf M.linksOf M.offersOf M.marketOf P.bought P.sold P.net P.higher P.value P.plus P.totalTo P.total P.lowest P.joined P.branch P.walk P.sent P.upwards P.upward P.load A.low16 A.low32 A.orZero A.each A.memberBytes A.memberRecord A.linkRecord A.between A.totalRecord A.answerOf F.lowestMember F.firstRecord F.offersBy F.noOffer F.without F.tooMany F.closes F.apart F.faultOf
+unfolding starred W.bytes W.chain W.A W.B W.C W.D W.E W.F W.G W.H W.I W.J W.K neg S.best S.nothing S.inRange S.isTotal S.noTotal S.allFlows S.allIn S.judge S.lexLe N.eqZ N.within B.linkOf B.offerOf B.entryAt B.entriesFrom B.entries R.refusal R._otherwise_ R.placeIf R.tooLong R.notWhole R.faulty R.unsound M.membersOf M.linksOf M.offersOf M.marketOf P.bought P.sold P.net P.higher P.value P.plus P.totalTo P.total P.lowest P.joined P.branch P.walk P.sent P.upwards P.upward P.load A.low16 A.low32 A.orZero A.each A.memberBytes A.memberRecord A.linkRecord A.between A.totalRecord A.answerOf F.lowestMember F.firstRecord F.offersBy F.noOffer F.without F.tooMany F.closes F.apart F.fileRefusal
 all-right = (
   clears W.A 3 (pos 2 ∷ pos 2 ∷ []) (pos 80) (omega arith) refl refl refl refl refl refl,
   (

@@ -8,7 +8,7 @@ use lib.ListN.{length}
 use Rattle.problem.specs.Problem.{Market}
 use Rattle.records.specs.Refusals.{Refusal, refusal, _otherwise_, placeIf}
 use Rattle.records.specs.Market.{marketOf}
-use Rattle.market.specs.Refusals.{faultOf}
+use Rattle.market.specs.Refusals.{fileRefusal}
 use Rattle.clearing.specs.Outcome.{code, Outcome}
 
 -- 11: answer area shorter than 16n
@@ -17,7 +17,7 @@ tooShort m room = placeIf (ltb room (16 * m .members)) (16 * m .members)
 
 -- refusals 1 to 11, the answer area having `room` bytes
 unfoldable pub refusalOf : List ℕ → ℕ → Option Refusal
-refusalOf file room = faultOf file otherwise refusal 11 (tooShort (marketOf file) room)
+refusalOf file room = fileRefusal file otherwise refusal 11 (tooShort (marketOf file) room)
 
 -- the file, the answer area before; the number returned, the answer area after
 pub data Result (file before : List ℕ) : ℕ → List ℕ → Type 0 where

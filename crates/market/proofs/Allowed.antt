@@ -11,7 +11,7 @@ use Rattle.records.specs.Refusals.{refusal, fileLimit}
 use Rattle.records.specs.Market.{marketOf}
 use Rattle.records.proofs.Entries.{sound-short}
 use Rattle.records.proofs.Allowed.{IfAllowed, IfPlaced, here, placed-if, refusal-allowed, first-allowed, unsound-allowed}
-use Rattle.market.specs.Refusals.{lowestMember, firstRecord, noOffer, without, tooMany, closes, apart, from10, from9, faultOf}
+use Rattle.market.specs.Refusals.{lowestMember, firstRecord, noOffer, without, tooMany, closes, apart, from10, from9, fileRefusal}
 use Rattle.market.proofs.Top.{market-few}
 
 -- the first record that passes, of n from record i on
@@ -39,9 +39,9 @@ from9-allowed f h =
     (λ e9. refusal-allowed 10 _ (λ q. omega (arith, q)) (member-placed _ f))
 
 -- refusals 1 to 10
-pub fault-allowed : (f : List ℕ) → IfAllowed (faultOf f)
-unfolding faultOf noOffer without tooMany
-fault-allowed f =
+pub file-allowed : (f : List ℕ) → IfAllowed (fileRefusal f)
+unfolding fileRefusal noOffer without tooMany
+file-allowed f =
     first-allowed _ _ (unsound-allowed f)
     (λ e.
     first-allowed _ _ (refusal-allowed 5 _ (λ q. omega (arith, q)) (placed-if _ _ (λ t. omega arith)))

@@ -27,7 +27,7 @@ use Rattle.problem.proofs.Cleared.{cap-both}
 use Rattle.network.specs.inner.Feeders.{Sound, memberAt, parentAt}
 use Rattle.network.specs.inner.Laid.{Laid}
 use Rattle.records.specs.Market.{marketOf}
-use Rattle.market.specs.Refusals.{faultOf}
+use Rattle.market.specs.Refusals.{fileRefusal}
 use Rattle.market.specs.inner.Feeders.{reachedAt, reachedFrom, capacityOf, places, laidOut, feederOf}
 use Rattle.market.proofs.Top.{market-few}
 use Rattle.market.proofs.LinkRecords.{capacity-small}
@@ -133,6 +133,6 @@ module _ (m : Market) (R : Tree m) (few : m .members ≤ 32) (small : (u v : ℕ
     away-is = λ i. carried-is _ (λ k l. capacity-back (m .links) _ _ ∙ capacity-at m R k l) i ∙ sym (cap-both m i .1);
   }
 
-pub file-laid : (f : List ℕ) → faultOf f ≡ none → Laid (marketOf f) (feederOf (marketOf f))
+pub file-laid : (f : List ℕ) → fileRefusal f ≡ none → Laid (marketOf f) (feederOf (marketOf f))
 unfolding marketOf
 file-laid f e = feeder-laid (marketOf f) (sound-tree f e) (market-few f) (capacity-small f)

@@ -9,7 +9,7 @@ use Rattle.records.specs.Records.{entries}
 use Rattle.records.specs.Refusals.{Refusal, refusal, unsound}
 use Rattle.records.specs.Market.{marketOf}
 use Rattle.records.proofs.Entries.{both-none}
-use Rattle.market.specs.Refusals.{firstRecord, noOffer, without, tooMany, closes, apart, faultOf}
+use Rattle.market.specs.Refusals.{firstRecord, noOffer, without, tooMany, closes, apart, fileRefusal}
 use Rattle.market.proofs.Verdicts.{some-member}
 use Rattle.market.proofs.LinkRecords.{links-within}
 use Rattle.market.proofs.Ringless.{ringless}
@@ -31,8 +31,8 @@ pub record Passed (f : List ℕ) : Type 0 where
   pub ringless : firstRecord closes 0 [] (entries f) ≡ none
   pub whole : apart (marketOf f) ≡ none
 
-pub passed : (f : List ℕ) → faultOf f ≡ none → Passed f
-unfolding faultOf
+pub passed : (f : List ℕ) → fileRefusal f ≡ none → Passed f
+unfolding fileRefusal
 passed f e =
     let p = both-none (unsound f) _ e in
     let p5 = both-none (refusal 5 (noOffer (marketOf f))) _ (p .1) in
@@ -46,6 +46,6 @@ passed f e =
       whole = unplaced 10 (apart (marketOf f)) (p9 .1);
     }
 
-pub sound-tree : (f : List ℕ) → faultOf f ≡ none → Tree (marketOf f)
+pub sound-tree : (f : List ℕ) → fileRefusal f ≡ none → Tree (marketOf f)
 unfolding marketOf
 sound-tree f e = let p = passed f e in tree-of (marketOf f) (some-member f (p .offers)) (links-within f) (ringless f (p .ringless)) (p .whole)

@@ -24,7 +24,7 @@ use Rattle.records.proofs.Entries.{Fits, by-record}
 use Rattle.market.specs.declared.Checked.{Checked}
 use Rattle.market.specs.declared.Place.{Place}
 use Rattle.market.specs.declared.Place.the-variants as Place
-use Rattle.market.specs.Refusals.{noOffer, apart, from10, from5, faultOf}
+use Rattle.market.specs.Refusals.{noOffer, apart, from10, from5, fileRefusal}
 use Rattle.market.specs.inner.Cases.{nowhere, placeOf}
 use Rattle.market.specs.inner.Feeders.{feederOf, checked, checkedOf}
 use Rattle.market.specs.inner.Lines.{marketOn}
@@ -79,11 +79,11 @@ refused-is k o p q e h = ap {B = Option Refusal} (λ (x : ℕ). some (record { n
 -- refusals 1 to 4, by the verdict on the records
 module _ (f : List ℕ) (v : Verdict) (is : v ≡ verdictOf (unsound f)) where
   pub read-fault : (k p : ℕ) → v ≡ Verdict.Refused k p → checked (marketOf f) (some (record { number = k; place = p })) ≡ checkedOf f
-  unfolding checkedOf faultOf _otherwise_
+  unfolding checkedOf fileRefusal _otherwise_
   read-fault k p e = sym (ap (λ (q : Option Refusal). checked (marketOf f) (q otherwise from5 f)) (verdict-some (unsound f) v k p is e))
 
   pub read-sound : unsound f ≡ none → checked (marketOf f) (from5 f) ≡ checkedOf f
-  unfolding checkedOf faultOf _otherwise_
+  unfolding checkedOf fileRefusal _otherwise_
   read-sound e = sym (ap (λ (q : Option Refusal). checked (marketOf f) (q otherwise from5 f)) e)
 
 -- refusal 5, by the number of offers

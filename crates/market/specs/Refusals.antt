@@ -64,5 +64,5 @@ abbrev pub from5 : List ℕ → Option Refusal
 from5 f = refusal 5 (noOffer (marketOf f)) otherwise from6 f
 
 -- refusals 1 to 10: the first that applies
-unfoldable pub faultOf : List ℕ → Option Refusal
-faultOf f = unsound f otherwise from5 f
+unfoldable pub fileRefusal : List ℕ → Option Refusal
+fileRefusal f = unsound f otherwise from5 f

@@ -16,11 +16,11 @@ use Rattle.answer.proofs.write.Tie as tie
 sound : (c : tie.Start) → Sound (c .args .feeder)
 sound c = c .pre .0 .2 .laid .sound
 
-places-requires : tie.Need-places-requires
-places-requires c κs = sound (c .before .before)
+positions-requires : tie.Need-positions-requires
+positions-requires c κs = sound (c .before .before)
 
 write-members-requires : tie.Need-write-members-requires
-write-members-requires c κs = (sound (c .before .before .before .before), c .before .places .ensures, omega (arith, c .before .before .before .before .pre .1))
+write-members-requires c κs = (sound (c .before .before .before .before), c .before .positions .ensures, omega (arith, c .before .before .before .before .pre .1))
 
 cast-members : tie.Need-cast-members
 cast-members c = search needs
@@ -47,7 +47,7 @@ write-links-requires : tie.Need-write-links-requires
 write-links-requires c κs =
     let st = c .before .before .before .before .before .before .before .before .before in
     let S = st .pre .0 .2 in
-    let P = c .before .before .before .before .before .before .places .ensures in
+    let P = c .before .before .before .before .before .before .positions .ensures in
     ((S .laid .sound, P, fitting S), simp (length-take, length-drop) (omega (arith, links-room S P, S .laid .sound .some, st .pre .1)))
 
 sub-put-total : tie.Need-sub-put-total
@@ -70,19 +70,19 @@ returns c m ys S =
     let total = c .before .before in
     let links = total .before .before .before .before in
     let members = links .before .before .before .before .before in
-    let places = members .before .before in
-    let start = places .before .before .before in
+    let positions = members .before .before in
+    let start = positions .before .before .before in
     let args = start .args in
     let n = args .feeder .members in
     let some = sound start .some in
-    let P = places .places .ensures in
-    three-parts (args .answer .now) (each n (memberBy (args .records .now) (places .places .result) (args .net))) (linksBy (args .feeder) (places .places .result) (args .sent)) (totalRecord (args .total .0))
-    (8 * n) (16 * n - 8) (members-length (args .records .now) (places .places .result) (args .net) n) (omega (arith, links-room S P)) (omega arith) 8 (16 * n) (omega arith)
+    let P = positions .positions .ensures in
+    three-parts (args .answer .now) (each n (memberBy (args .records .now) (positions .positions .result) (args .net))) (linksBy (args .feeder) (positions .positions .result) (args .sent)) (totalRecord (args .total .0))
+    (8 * n) (16 * n - 8) (members-length (args .records .now) (positions .positions .result) (args .net) n) (omega (arith, links-room S P)) (omega arith) 8 (16 * n) (omega arith)
     (members .write-members .ensures) (links .write-links .ensures) refl (total .put-total .ensures)
     ∙ ap (λ (x : List ℕ). x ++ drop (16 * n) (args .answer .now)) (answer-is S P (args .total .0))
 
 pub write-spec : {M : Type 1} → statement M
 write-spec =
     tie.close
-    (tie.spec places-requires write-members-requires cast-members mul-from mul-to sub-to sub-write-links part-write-links-start part-write-links-end write-links-requires
+    (tie.spec positions-requires write-members-requires cast-members mul-from mul-to sub-to sub-write-links part-write-links-start part-write-links-end write-links-requires
     sub-put-total part-put-total-start part-put-total-end put-total-requires same-length returns)

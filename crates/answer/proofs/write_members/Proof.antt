@@ -15,11 +15,11 @@ use Rattle.answer.proofs.write_members.Statement.{statement}
 use Rattle.answer.proofs.write_members.Tie as tie
 
 abbrev Inv-loop : tie.InvT-loop
-Inv-loop records out₀ place net members at₀ i₀ out at i =
-    (i ≤ members) × Filled (memberBy records place net) i out₀ at out × (at ≡ 8 * i) × (length out ≡ length out₀)
+Inv-loop records out₀ position net members at₀ i₀ out at i =
+    (i ≤ members) × Filled (memberBy records position net) i out₀ at out × (at ≡ 8 * i) × (length out ≡ length out₀)
 
 abbrev μ-loop : tie.MeasureT-loop
-μ-loop records out₀ place net members at₀ i₀ out at i = members - i
+μ-loop records out₀ position net members at₀ i₀ out at i = members - i
 
 cast-members : tie.Need-cast-members Inv-loop μ-loop
 cast-members c = search needs

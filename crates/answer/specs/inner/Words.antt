@@ -1,5 +1,5 @@
 -- What the writers of the answer's records are lent, and what they write. Nets and flows stand by the positions of a feeder;
--- `place` has the position of each member, member 1's first.
+-- `position` has the position of each member, member 1's first.
 use mathlib.Core.Path.{_≡_}
 use mathlib.Core.Bool.{Bool, true, false, cond}
 use mathlib.Core.List.{List, [], _++_}
@@ -30,20 +30,20 @@ pub record Settles (m : Market) (ys : List ℤ) (table : List ℕ) (f : Feeder) 
   pub sends : (i : ℕ) → 1 ≤ i → i < f .members → unitsIn sent i ≡ P.sent (m .links) ys (memberAt f i) (memberAt f (parentAt f i))
 
 -- the position of member j
-abbrev pub placeOf : List ℕ → ℕ → ℕ
-placeOf place j = getD place (j - 1) 0
+abbrev pub positionIn : List ℕ → ℕ → ℕ
+positionIn position j = getD position (j - 1) 0
 
--- `place` has the position of each of f's members
-pub record Placed (f : Feeder) (place : List ℕ) : Type 0 where
-  pub at : (i : ℕ) → i < f .members → placeOf place (memberAt f i) ≡ i
-  pub inside : (j : ℕ) → getD place j 0 < f .members
+-- `position` has the position of each of f's members
+pub record Positioned (f : Feeder) (position : List ℕ) : Type 0 where
+  pub at : (i : ℕ) → i < f .members → positionIn position (memberAt f i) ≡ i
+  pub inside : (j : ℕ) → getD position j 0 < f .members
 
 -- the link between a and b, a the lower: the position that was reached over it, and whether that is a's
-unfoldable pub jointOf : (parent place : List ℕ) (a b : ℕ) → Joint
-jointOf parent place a b =
+unfoldable pub jointOf : (parent position : List ℕ) (a b : ℕ) → Joint
+jointOf parent position a b =
     cond (ltb a b)
-    (cond (eqb (getD parent (placeOf place b) 0) (placeOf place a)) (Joint.Over (placeOf place b) false)
-    (cond (eqb (getD parent (placeOf place a) 0) (placeOf place b)) (Joint.Over (placeOf place a) true) Joint.Apart))
+    (cond (eqb (getD parent (positionIn position b) 0) (positionIn position a)) (Joint.Over (positionIn position b) false)
+    (cond (eqb (getD parent (positionIn position a) 0) (positionIn position b)) (Joint.Over (positionIn position a) true) Joint.Apart))
     Joint.Apart
 
 -- what flows from the lower member to the higher one, where one of them sends y toward member 1
@@ -55,23 +55,23 @@ jointBytes f sent a b (Joint.Over i lower) = linkRecord (record { a = a; b = b; 
 jointBytes f sent a b Joint.Apart = []
 
 -- the record of the link from a to b, if there is one, and those of all links
-unfoldable pub linkBy : Feeder → (place : List ℕ) (sent : List Units) (a b : ℕ) → List ℕ
-linkBy f place sent a b = jointBytes f sent a b (jointOf (f .parent) place a b)
+unfoldable pub linkBy : Feeder → (position : List ℕ) (sent : List Units) (a b : ℕ) → List ℕ
+linkBy f position sent a b = jointBytes f sent a b (jointOf (f .parent) position a b)
 
-unfoldable pub linksBy : Feeder → (place : List ℕ) (sent : List Units) → List ℕ
-linksBy f place sent = each (f .members) (λ a. each (f .members) (linkBy f place sent a))
+unfoldable pub linksBy : Feeder → (position : List ℕ) (sent : List Units) → List ℕ
+linksBy f position sent = each (f .members) (λ a. each (f .members) (linkBy f position sent a))
 
 -- member j's record
-unfoldable pub memberBy : (table place : List ℕ) (net : List Units) → ℕ → List ℕ
-memberBy table place net j =
-    let x : ℤ = unitsIn net (placeOf place j) in
+unfoldable pub memberBy : (table position : List ℕ) (net : List Units) → ℕ → List ℕ
+memberBy table position net j =
+    let x : ℤ = unitsIn net (positionIn position j) in
     memberBytes j x (orZero (value (offersOf (entries table)) j x))
 
 -- no flow exceeds what its link carries
 abbrev pub Fitting : Feeder → List Units → Type 0
 Fitting f sent = (i : ℕ) → i < f .members → natAbs (unitsIn sent i) ≤ towardAt f i
 
--- the first i lists of f stand at the start of `out`, up to the place `at`, and the rest is as in `before`
+-- the first i lists of f stand at the start of `out`, up to the position `at`, and the rest is as in `before`
 pub record Filled (f : ℕ → List ℕ) (i : ℕ) (before : List ℕ) (at : ℕ) (out : List ℕ) : Type 0 where
   pub at-is : at ≡ length (each i f)
   pub out-is : out ≡ each i f ++ drop at before

@@ -7,24 +7,24 @@ use Prim.Native.Nat.{ℕ, _*_}
 use native.Mathlib.Omega.{arith}
 use lib.ListN.{length}
 use Rattle.records.specs.Market.{marketOf}
-use Rattle.market.specs.Refusals.{faultOf}
+use Rattle.market.specs.Refusals.{fileRefusal}
 use Rattle.market.proofs.Verdicts.{verdict-some, verdict-none}
 use Rattle.clearing.specs.Outcome.{code}
 use Rattle.clearing.specs.Promise.{Result}
 use Rattle.clearing.specs.Promise.Result.{refused, settled}
 use Rattle.clearing.specs.inner.Words.{Held}
-use Rattle.clearing.proofs.Refused.{room-none, fault-refused, short-refused, checked-verdict, checked-held}
+use Rattle.clearing.proofs.Refused.{room-none, file-refused, short-refused, checked-verdict, checked-held}
 use Rattle.clearing.proofs.clear.Statement.{statement}
 use Rattle.clearing.proofs.clear.Tie as tie
 
 file : tie.After-market → List ℕ
 file c = c .before .before .before .args .file .now
 
-sound : (c : tie.After-enum-told) → faultOf (file (c .before .before)) ≡ none
+sound : (c : tie.After-enum-told) → fileRefusal (file (c .before .before)) ≡ none
 unfolding file
 sound c =
     let m = c .before .before in
-    verdict-none (faultOf (file m)) _ (checked-verdict (file m) _ (m .market .ensures)) (c .before .match .keys2)
+    verdict-none (fileRefusal (file m)) _ (checked-verdict (file m) _ (m .market .ensures)) (c .before .match .keys2)
 
 held : (c : tie.After-enum-told) → Held (marketOf (file (c .before .before))) (c .before .before .market .result .feeder) (file (c .before .before))
 unfolding file
@@ -44,8 +44,8 @@ unfolding file
 returns c =
     let m = c .before .before .before .before in
     let area : List ℕ = m .before .before .before .args .answer .now in
-    let e = verdict-some (faultOf (file m)) _ _ _ (checked-verdict (file m) _ (m .market .ensures)) (c .before .before .verdict .given .1) in
-    subst (λ (k : ℕ). Result (file m) area k area) (sym (c .refusal .ensures)) (refused _ (fault-refused (file m) (length area) _ e))
+    let e = verdict-some (fileRefusal (file m)) _ _ _ (checked-verdict (file m) _ (m .market .ensures)) (c .before .before .verdict .given .1) in
+    subst (λ (k : ℕ). Result (file m) area k area) (sym (c .refusal .ensures)) (refused _ (file-refused (file m) (length area) _ e))
 
 enum-told : tie.Need-enum-told
 enum-told c = search needs

@@ -12,7 +12,7 @@ use Rattle.network.specs.declared.Feeder.{Feeder}
 use Rattle.records.specs.Refusals.{Refusal}
 use Rattle.records.specs.Market.{marketOf}
 use Rattle.records.specs.inner.Cases.{verdictOf}
-use Rattle.market.specs.Refusals.{faultOf}
+use Rattle.market.specs.Refusals.{fileRefusal}
 use Rattle.market.specs.declared.Checked.{Checked}
 
 -- the member at position i; the stops stand latest first
@@ -65,4 +65,4 @@ checked m none = record { verdict = verdictOf none; feeder = feederOf m }
 checked m (some r) = record { verdict = verdictOf (some r); feeder = noFeeder }
 
 unfoldable pub checkedOf : List ℕ → Checked
-checkedOf file = checked (marketOf file) (faultOf file)
+checkedOf file = checked (marketOf file) (fileRefusal file)

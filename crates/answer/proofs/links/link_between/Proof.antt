@@ -6,7 +6,7 @@ use lib.Dec.{ltb}
 use lib.ListN.{getD}
 use borrow.Author.Needs.{needs}
 use borrow.Author.Tests.{not-true, not-false}
-use Rattle.answer.specs.inner.Words.{placeOf}
+use Rattle.answer.specs.inner.Words.{positionIn}
 use Rattle.answer.specs.declared.links.Joint.the-variants as Joint
 use Rattle.answer.proofs.Joints.{not-below, higher-reached, lower-reached, not-reached}
 use Rattle.answer.proofs.links.link_between.Statement.{statement}
@@ -41,10 +41,10 @@ module _ (c : tie.After-index2) where
   below : ltb (start .args .a .0) (start .args .b .0) ≡ true
   below = sym (c .before .before .before .below .ensures) ∙ not-false _ (c .before .before .if1 .left)
 
-  lower-is : getD (start .args .t2) (c .before .index .result) 0 ≡ placeOf (start .args .t2) (start .args .a .0)
+  lower-is : getD (start .args .t2) (c .before .index .result) 0 ≡ positionIn (start .args .t2) (start .args .a .0)
   lower-is = ap (λ (j : ℕ). getD (start .args .t2) j 0) (c .before .index .ensures)
 
-  higher-is : getD (start .args .t2) (c .index2 .result) 0 ≡ placeOf (start .args .t2) (start .args .b .0)
+  higher-is : getD (start .args .t2) (c .index2 .result) 0 ≡ positionIn (start .args .t2) (start .args .b .0)
   higher-is = ap (λ (j : ℕ). getD (start .args .t2) j 0) (c .index2 .ensures)
 
 array-read-if2 : tie.Need-array-read-if2

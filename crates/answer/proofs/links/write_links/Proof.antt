@@ -15,14 +15,14 @@ use Rattle.answer.proofs.links.write_links.Tie as tie
 
 -- the records of the links of member a to higher ones
 abbrev linksFrom : Feeder → List ℕ → List Units → ℕ → List ℕ
-linksFrom feeder place sent a = each (feeder .members) (linkBy feeder place sent a)
+linksFrom feeder position sent a = each (feeder .members) (linkBy feeder position sent a)
 
 abbrev Inv-loop : tie.InvT-loop
-Inv-loop feeder place sent out₀ members at₀ i₀ out at i =
-    (i ≤ members) × (members ≡ feeder .members) × Filled (linksFrom feeder place sent) i out₀ at out × (at ≤ length out₀) × (length out ≡ length out₀)
+Inv-loop feeder position sent out₀ members at₀ i₀ out at i =
+    (i ≤ members) × (members ≡ feeder .members) × Filled (linksFrom feeder position sent) i out₀ at out × (at ≤ length out₀) × (length out ≡ length out₀)
 
 abbrev μ-loop : tie.MeasureT-loop
-μ-loop feeder place sent out₀ members at₀ i₀ out at i = members - i
+μ-loop feeder position sent out₀ members at₀ i₀ out at i = members - i
 
 cast-members : tie.Need-cast-members Inv-loop μ-loop
 cast-members c = search needs
@@ -54,7 +54,7 @@ module _ (c : tie.After-at Inv-loop μ-loop) where
   start = at-loop .before .before .before
 
   abbrev by : ℕ → List ℕ
-  by = linksFrom (start .args .feeder) (start .args .place) (start .args .sent)
+  by = linksFrom (start .args .feeder) (start .args .position) (start .args .sent)
 
   fits : length (each (start .args .feeder .members) by) ≤ length (start .args .out .now)
   unfolding linksBy
@@ -94,7 +94,7 @@ returns : tie.Need-returns Inv-loop μ-loop
 unfolding linksBy
 returns c =
     let args = c .before .before .before .before .args in
-    filled-done (linksFrom (args .feeder) (args .place) (args .sent)) (args .out .now) (args .feeder .members) _ (c .before .loop .inv .2) (omega (arith, c .loop-test .left, c .before .loop .inv .0)) refl
+    filled-done (linksFrom (args .feeder) (args .position) (args .sent)) (args .out .now) (args .feeder .members) _ (c .before .loop .inv .2) (omega (arith, c .loop-test .left, c .before .loop .inv .0)) refl
 
 pub write-links-spec : {M : Type 1} → statement M
 write-links-spec =

@@ -18,11 +18,11 @@ use Rattle.answer.proofs.links.write_links_of.Statement.{statement}
 use Rattle.answer.proofs.links.write_links_of.Tie as tie
 
 abbrev Inv-loop : tie.InvT-loop
-Inv-loop place a out₀ feeder sent members at₀ i₀ out at i =
-    (i ≤ members) × (members ≡ feeder .members) × Filled (linkBy feeder place sent (a .0)) i out₀ at out × (at ≤ length out₀) × (length out ≡ length out₀)
+Inv-loop position a out₀ feeder sent members at₀ i₀ out at i =
+    (i ≤ members) × (members ≡ feeder .members) × Filled (linkBy feeder position sent (a .0)) i out₀ at out × (at ≤ length out₀) × (length out ≡ length out₀)
 
 abbrev μ-loop : tie.MeasureT-loop
-μ-loop place a out₀ feeder sent members at₀ i₀ out at i = members - i
+μ-loop position a out₀ feeder sent members at₀ i₀ out at i = members - i
 
 cast-members : tie.Need-cast-members Inv-loop μ-loop
 cast-members c = search needs
@@ -38,7 +38,7 @@ add-i c = search needs
 
 -- the records of a's links to higher members
 abbrev by : tie.Start Inv-loop μ-loop → ℕ → List ℕ
-by c = linkBy (c .args .t1) (c .args .place) (c .args .t3) (c .args .a .0)
+by c = linkBy (c .args .t1) (c .args .position) (c .args .t3) (c .args .a .0)
 
 link-between-requires : tie.Need-link-between-requires Inv-loop μ-loop
 link-between-requires c κs =
@@ -47,8 +47,8 @@ link-between-requires c κs =
     let few = f .0 .few in
     (t .pre .1 .0, omega (arith, t .pre .1 .1), omega (arith, c .before .at .ensures), omega (arith, c .before .at .ensures, c .before .before .loop-test .taken), λ j. omega (arith, f .1 .inside j))
 
-enum-known-position : tie.Need-enum-known-position Inv-loop μ-loop
-enum-known-position c = search needs
+enum-known-reached : tie.Need-enum-known-reached Inv-loop μ-loop
+enum-known-reached c = search needs
 
 enum-told : tie.Need-enum-told Inv-loop μ-loop
 enum-told c = search needs
@@ -61,28 +61,28 @@ loop-again c =
     let b = c .before .before .before .before in
     let v = b .before .before .loop .inv in
     let start = b .before .before .before .before in
-    let none = no-record (start .args .t1) (start .args .place) (start .args .t3) (start .args .a .0) (b .at .result .0) (c .before .before .link-between .ensures) (c .before .match .keys2) in
+    let none = no-record (start .args .t1) (start .args .position) (start .args .t3) (start .args .a .0) (b .at .result .0) (c .before .before .link-between .ensures) (c .before .match .keys2) in
     (search needs, search needs, filled-skip (by start) (start .args .out .now) (v .2) (ap (by start) (sym (b .at .ensures)) ∙ none), v .3, v .4)
 
 -- the link that is found
-module _ (p : tie.After-position Inv-loop μ-loop) where
+module _ (p : tie.After-reached Inv-loop μ-loop) where
   abbrev turn : tie.After-at Inv-loop μ-loop
   turn = p .before .before .before .before
 
   abbrev start : tie.Start Inv-loop μ-loop
   start = turn .before .before .before .before
 
-  inside : p .position .given .0 .0 < start .args .t1 .members
-  inside = joint-inside _ _ _ _ _ (p .before .before .link-between .ensures) (start .pre .0 .1 .inside) _ _ (p .position .given .1)
+  inside : p .reached .given .0 .0 < start .args .t1 .members
+  inside = joint-inside _ _ _ _ _ (p .before .before .link-between .ensures) (start .pre .0 .1 .inside) _ _ (p .reached .given .1)
 
-  position-32 : p .position .given .0 .0 < 32
+  position-32 : p .reached .given .0 .0 < 32
   position-32 = omega (arith, inside, start .pre .0 .0 .few)
 
-  capacity-40 : towardAt (start .args .t1) (p .position .given .0 .0) ≤ 40
-  capacity-40 = start .pre .0 .0 .toward (p .position .given .0 .0) .1
+  capacity-40 : towardAt (start .args .t1) (p .reached .given .0 .0) ≤ 40
+  capacity-40 = start .pre .0 .0 .toward (p .reached .given .0 .0) .1
 
-  flow-fits : natAbs (unitsIn (start .args .t3) (p .position .given .0 .0)) ≤ towardAt (start .args .t1) (p .position .given .0 .0)
-  flow-fits = start .pre .0 .2 (p .position .given .0 .0) inside
+  flow-fits : natAbs (unitsIn (start .args .t3) (p .reached .given .0 .0)) ≤ towardAt (start .args .t1) (p .reached .given .0 .0)
+  flow-fits = start .pre .0 .2 (p .reached .given .0 .0) inside
 
 cast-capacity : tie.Need-cast-capacity Inv-loop μ-loop
 cast-capacity c = search needs
@@ -116,18 +116,18 @@ part-put-link-end c = search needs
 
 -- its record is next, and there is room for it
 module _ (c : tie.After-put-link-arg Inv-loop μ-loop) where
-  abbrev found : tie.After-position Inv-loop μ-loop
+  abbrev found : tie.After-reached Inv-loop μ-loop
   found = c .before .before .before .before .before
 
   abbrev at-loop : tie.At-loop Inv-loop μ-loop
   at-loop = turn found .before .before
 
-  next : by (start found) (at-loop .loop .i + 1) ≡ linkRecord (record { a = start found .args .a .0; b = turn found .at .result .0; capacity = towardAt (start found .args .t1) (found .position .given .0 .0) }) (c .before .from-lower .result .0)
+  next : by (start found) (at-loop .loop .i + 1) ≡ linkRecord (record { a = start found .args .a .0; b = turn found .at .result .0; capacity = towardAt (start found .args .t1) (found .reached .given .0 .0) }) (c .before .from-lower .result .0)
   next =
       let args = start found .args in
       ap (by (start found)) (sym (turn found .at .ensures))
-      ∙ one-record (args .t1) (args .place) (args .t3) (args .a .0) (turn found .at .result .0) (found .before .before .link-between .ensures) _ _ (found .position .given .1)
-      ∙ ap (λ (y : ℤ). linkRecord (record { a = args .a .0; b = turn found .at .result .0; capacity = towardAt (args .t1) (found .position .given .0 .0) }) y) (sym (c .before .from-lower .ensures))
+      ∙ one-record (args .t1) (args .position) (args .t3) (args .a .0) (turn found .at .result .0) (found .before .before .link-between .ensures) _ _ (found .reached .given .1)
+      ∙ ap (λ (y : ℤ). linkRecord (record { a = args .a .0; b = turn found .at .result .0; capacity = towardAt (args .t1) (found .reached .given .0 .0) }) y) (sym (c .before .from-lower .ensures))
 
   next-8 : length (by (start found) (at-loop .loop .i + 1)) ≡ 8
   next-8 = ap length next ∙ link-8 _ _
@@ -140,7 +140,7 @@ put-link-requires c κs =
     let p = found c in (
       simp (length-take, length-drop) (omega (arith, room c, at-loop c .loop .inv .4)),
       capacity-40 p,
-      omega (arith, flow-fits p, ap natAbs (c .before .from-lower .ensures), size-from-lower (p .position .given .0 .1 .0) (unitsIn (start p .args .t3) (p .position .given .0 .0))),
+      omega (arith, flow-fits p, ap natAbs (c .before .from-lower .ensures), size-from-lower (p .reached .given .0 .1 .0) (unitsIn (start p .args .t3) (p .reached .given .0 .0))),
     )
 
 add-at : tie.Need-add-at Inv-loop μ-loop
@@ -170,6 +170,6 @@ returns c =
 pub write-links-of-spec : {M : Type 1} → statement M
 write-links-of-spec =
     tie.close
-    (tie.spec Inv-loop μ-loop cast-members loop-holds at-requires add-i link-between-requires enum-known-position enum-told loop-less loop-again cast-capacity
+    (tie.spec Inv-loop μ-loop cast-members loop-holds at-requires add-i link-between-requires enum-known-reached enum-told loop-less loop-again cast-capacity
     mul-capacity element-copy-out-capacity cast-from-lower mul-from-lower array-copy-out-from-lower from-lower-requires sub-put-link part-put-link-start part-put-link-end
     put-link-requires add-at loop-less-2 loop-again-2 same-length returns)

@@ -1,18 +1,18 @@
--- `places` meets its contract. The invariant: the positions below i have been put down.
+-- `positions` meets its contract. The invariant: the positions below i have been put down.
 use borrow.Author.Needs.{needs}
 use native.Mathlib.Omega.{arith}
 use mathlib.Core.Path.{sym, subst}
 use Prim.Native.Nat.{ℕ, _+_, _-_, _≤_, _<_}
 use lib.ListN.{set}
 use Rattle.answer.proofs.Seating.{Seating, seating-none, seating-more, seated}
-use Rattle.answer.proofs.places.Statement.{statement}
-use Rattle.answer.proofs.places.Tie as tie
+use Rattle.answer.proofs.positions.Statement.{statement}
+use Rattle.answer.proofs.positions.Tie as tie
 
 abbrev Inv-loop : tie.InvT-loop
-Inv-loop feeder place₀ i₀ place i = (i ≤ feeder .members) × Seating feeder place i
+Inv-loop feeder position₀ i₀ position i = (i ≤ feeder .members) × Seating feeder position i
 
 abbrev μ-loop : tie.MeasureT-loop
-μ-loop feeder place₀ i₀ place i = feeder .members - i
+μ-loop feeder position₀ i₀ position i = feeder .members - i
 
 loop-holds : tie.Need-loop-holds Inv-loop μ-loop
 loop-holds c = (search needs, seating-none (c .pre))
@@ -26,14 +26,14 @@ element-copy-out-member c = search needs
 index-requires : tie.Need-index-requires Inv-loop μ-loop
 index-requires c κs = omega (arith, c .before .before .before .pre .known (c .before .before .loop .i) (c .before .loop-test .taken))
 
--- the member's place in the array
+-- the member's position in the array
 here : (c : tie.After-index Inv-loop μ-loop) → c .index .result < 32
 here c =
     let s = c .before .before .before .before .pre in
     omega (arith, c .index .ensures, s .known (c .before .before .before .loop .i) (c .before .before .loop-test .taken), s .few)
 
-array-write-place : tie.Need-array-write-place Inv-loop μ-loop
-array-write-place c = here c
+array-write-position : tie.Need-array-write-position Inv-loop μ-loop
+array-write-position c = here c
 
 add-i : tie.Need-add-i Inv-loop μ-loop
 add-i c = search needs
@@ -45,12 +45,12 @@ loop-again : tie.Need-loop-again Inv-loop μ-loop
 loop-again c =
     let t = c .before .before .before in
     let l = c .before .before .loop-test .taken in
-    (search needs, subst (λ (a : ℕ). Seating (t .before .args .t1) (set (t .loop .place) a (t .loop .i)) (t .loop .i + 1)) (sym (c .index .ensures)) (seating-more (t .before .pre) (t .loop .inv .1) l))
+    (search needs, subst (λ (a : ℕ). Seating (t .before .args .t1) (set (t .loop .position) a (t .loop .i)) (t .loop .i + 1)) (sym (c .index .ensures)) (seating-more (t .before .pre) (t .loop .inv .1) l))
 
 returns : tie.Need-returns Inv-loop μ-loop
 returns c = seated (c .loop-test .left) (c .before .loop .inv .1)
 
-pub places-spec : {M : Type 1} → statement M
-places-spec =
+pub positions-spec : {M : Type 1} → statement M
+positions-spec =
     tie.close
-    (tie.spec Inv-loop μ-loop loop-holds cast-member element-copy-out-member index-requires array-write-place add-i loop-less loop-again returns)
+    (tie.spec Inv-loop μ-loop loop-holds cast-member element-copy-out-member index-requires array-write-position add-i loop-less loop-again returns)
