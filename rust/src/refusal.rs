@@ -17,7 +17,7 @@ use std::fmt;
 pub struct Refusal {
     /// From 1 to 12, and never 8.
     pub number: u64,
-    /// Where the fault lies.
+    /// Where it lies: a record, a member, or the bytes that are asked for.
     pub place: u64,
 }
 

@@ -36,14 +36,14 @@ use Rattle.answer.proofs.Sizes.{size-from-lower}
 
 -- ---- a member's record
 
-pub member-by : (table position : List ℕ) (net : List Units) (i : ℕ) {j : ℕ} {x v : ℤ} → j ≡ i + 1 → x ≡ unitsIn net (getD position i 0) → v ≡ orZero (value (offersOf (entries table)) j x)
-    → memberBytes j x v ≡ memberBy table position net (i + 1)
+pub member-by : (records position : List ℕ) (net : List Units) (i : ℕ) {j : ℕ} {x v : ℤ} → j ≡ i + 1 → x ≡ unitsIn net (getD position i 0) → v ≡ orZero (value (offersOf (entries records)) j x)
+    → memberBytes j x v ≡ memberBy records position net (i + 1)
 unfolding memberBy
-member-by table position net i e p q = let k : i + 1 - 1 ≡ i = omega arith in rw (q, p, e, k)
+member-by records position net i e p q = let k : i + 1 - 1 ≡ i = omega arith in rw (q, p, e, k)
 
-pub members-length : (table position : List ℕ) (net : List Units) (n : ℕ) → length (each n (memberBy table position net)) ≡ 8 * n
+pub members-length : (records position : List ℕ) (net : List Units) (n : ℕ) → length (each n (memberBy records position net)) ≡ 8 * n
 unfolding memberBy
-members-length table position net n = each-8 n (memberBy table position net) (λ j. member-8 j _ _)
+members-length records position net n = each-8 n (memberBy records position net) (λ j. member-8 j _ _)
 
 -- ---- the record between two members
 
@@ -116,7 +116,7 @@ unfolding fromLower
 size-upward true y = refl
 size-upward false y = size-from-lower false y
 
-module _ {m : Market} {ys : List ℤ} {table : List ℕ} {f : Feeder} {net sent : List Units} (S : Settles m ys table f net sent) where
+module _ {m : Market} {ys : List ℤ} {records : List ℕ} {f : Feeder} {net sent : List Units} (S : Settles m ys records f net sent) where
   abbrev R : Tree m
   R = S .laid .tree
 
@@ -187,11 +187,11 @@ module _ {m : Market} {ys : List ℤ} {table : List ℕ} {f : Feeder} {net sent 
     placed : (a : ℕ) → 1 ≤ a → a ≤ m .members → (positionIn position a < m .members) × (member m (positionIn position a) ≡ a)
     placed = each-member m R (λ a. (positionIn position a < m .members) × (member m (positionIn position a) ≡ a)) (λ i l. (omega (arith, place-member i l), ap (member m) (place-member i l)))
 
-    members-same : each (f .members) (memberBy table position net) ≡ each (m .members) (memberRecord m ys)
+    members-same : each (f .members) (memberBy records position net) ≡ each (m .members) (memberRecord m ys)
     unfolding memberBy memberRecord
     members-same =
         rw count
-        (each-same (m .members) (memberBy table position net) (memberRecord m ys) (λ j p q.
+        (each-same (m .members) (memberBy records position net) (memberRecord m ys) (λ j p q.
         let a = placed j p q in
         let l : positionIn position j < f .members = omega (arith, count, a .0) in
         let e : unitsIn net (positionIn position j) ≡ P.net j (m .links) ys =
@@ -262,7 +262,7 @@ module _ {m : Market} {ys : List ℤ} {table : List ℕ} {f : Feeder} {net sent 
 
     -- ---- the answer
 
-    pub answer-is : (t : ℤ) → each (f .members) (memberBy table position net) ++ linksBy f position sent ++ totalRecord t ≡ answerOf m ys t
+    pub answer-is : (t : ℤ) → each (f .members) (memberBy records position net) ++ linksBy f position sent ++ totalRecord t ≡ answerOf m ys t
     unfolding answerOf
     answer-is t = rw (members-same, links-same)
 

@@ -33,15 +33,15 @@ use Rattle.clearing.specs.Outcome.Outcome.{nothing, cleared}
 use Rattle.clearing.specs.inner.Words.{Held}
 use Rattle.clearing.proofs.Agree.{run-same, picks-same, indices-same}
 
-module _ {m : Market} {f : Feeder} {table : List ℕ} (H : Held m f table) where
+module _ {m : Market} {f : Feeder} {records : List ℕ} (H : Held m f records) where
   abbrev R : Tree m
   R = H .laid .tree
 
   abbrev os : List Offer
-  os = offersOf (entries table)
+  os = offersOf (entries records)
 
   prices : Priced 1000000 (m .offers)
-  prices = subst (Priced 1000000) (sym (H .tables)) (priced table)
+  prices = subst (Priced 1000000) (sym (H .tables)) (priced records)
 
   count : f .members ≡ m .members
   count = H .laid .members
@@ -110,7 +110,7 @@ module _ {m : Market} {f : Feeder} {table : List ℕ} (H : Held m f table) where
     best-small =
         let k : Walk = form 1000000 m in
         let b : tab k (f .members) 1 0 0 ≤ suc (2000000 * f .members) =
-        tab-bound k rising (λ i p. refl) (f .members) 2000000 (λ j x. subst (λ (o : List Offer). cellOf 1000000 (value o (member m j) (pos (C.topOf m j) -ℤ pos x)) ≤ 2000001) (sym (H .tables)) (cell-bound (member m j) (pos (C.topOf m j) -ℤ pos x) table))
+        tab-bound k rising (λ i p. refl) (f .members) 2000000 (λ j x. subst (λ (o : List Offer). cellOf 1000000 (value o (member m j) (pos (C.topOf m j) -ℤ pos x)) ≤ 2000001) (sym (H .tables)) (cell-bound (member m j) (pos (C.topOf m j) -ℤ pos x) records))
         1 0 0 (omega arith) (omega (arith, H .laid .sound .some)) (omega arith) in
         let b′ : C.best 1000000 m ≤ suc (2000000 * f .members) = subst (λ (d : ℕ). run k d 1 0 0 ≤ suc (2000000 * f .members)) links b in
         omega (arith, best-is, H .laid .sound .few, lit< {m = 64000001} {n = 2 ^ 31} tt)
@@ -129,7 +129,7 @@ module _ {m : Market} {f : Feeder} {table : List ℕ} (H : Held m f table) where
       best-found = clear-some 1000000 m R prices (best - 1) (sym best-is ∙ omega (arith, z))
 
       -- what the engine leaves is those flows
-      pub settles : Settles m ys table f net sent
+      pub settles : Settles m ys records f net sent
       settles = record {
         laid = H .laid;
         tables = H .tables;

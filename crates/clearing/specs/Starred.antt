@@ -2,7 +2,6 @@
 use mathlib.Core.List.{List, [], _∷_, _++_}
 use Prim.Native.Nat.{ℕ, _≤_}
 use lib.ListN.{length, drop}
-use Rattle.clearing.specs.Outcome.{code, noAllocation}
 use Rattle.clearing.specs.Promise.{Result}
 
 -- a file, the number returned, and the bytes written
@@ -71,11 +70,11 @@ C = record {
   written = bytes 0x03 0x01 0x00 0x00 0x00 0x00 0x00 0x00 (bytes 0x05 0x00 0x00 0x00 0x00 0x00 0x00 0x00 []);
 }
 
--- D: one member, (5,900) only: refusal 12
+-- D: one member, (5,900) only: refusal 12, which returns 12 times 65,536
 unfoldable pub D : Row
 D = record {
   file = bytes 0x02 0x01 0x05 0x00 0x84 0x03 0x00 0x00 [];
-  number = code noAllocation;
+  number = 786432;
   written = [];
 }
 
@@ -145,7 +144,7 @@ I = record {
       bytes 0x01 0x01 0x02 0x00 0x01 0x00 0x00 0x00 (
       bytes 0x02 0x01 0xFF 0xFF 0xFD 0xFF 0xFF 0xFF (
       bytes 0x02 0x02 0x02 0x00 0x09 0x00 0x00 0x00 []));
-  number = code noAllocation;
+  number = 786432;
   written = [];
 }
 

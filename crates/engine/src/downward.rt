@@ -6,7 +6,7 @@ ghost use Prim.Native.Nat.{ℕ, _≤_, _<_};
 ghost use lib.IntN.{pos, _-ℤ_};
 ghost use lib.ListN.{length, getD};
 ghost use Rattle.network.specs.inner.Feeders.{awayAt, Sound};
-ghost use Rattle.engine.specs.inner.Words.{walkOf, topOf, Kept, Settled, Flows};
+ghost use Rattle.engine.specs.inner.Words.{walkOf, topOf, Kept, Settled, Flows, choicePlaces};
 use crate::Solution;
 use crate::upward::slot;
 use crate::upward::top;
@@ -23,7 +23,7 @@ pub struct Chosen {
 
 // The choices, read from what was kept.
 pub fn choose(feeder: Feeder, choices: &[u8]) -> Chosen
-    requires { ⌜ Sound feeder × (length (now choices) ≡ 37231) × ((own : ℕ → ℕ → ℕ) × Kept (walkOf feeder own) (feeder .members) (now choices) 0 0) ⌝ }
+    requires { ⌜ Sound feeder × (length (now choices) ≡ choicePlaces) × ((own : ℕ → ℕ → ℕ) × Kept (walkOf feeder own) (feeder .members) (now choices) 0 0) ⌝ }
     ensures { λ r. ⌜ ((own : ℕ → ℕ → ℕ) → Kept (walkOf feeder own) (feeder .members) (now (choices .entry)) 0 0 → Settled (walkOf feeder own) (feeder .members) (r .choice) (r .index)) ⌝ }
 {
     let n = wide(feeder.members);

@@ -19,15 +19,15 @@ pub struct Solution {
     pub sent: [Units; 32],
 }
 
-// The best total over a feeder, where every member's table stands in the one file.
-pub fn solve(feeder: Feeder, file: &[u8]) -> Solution
+// The best total over a feeder, where every member's table stands in the same records.
+pub fn solve(feeder: Feeder, records: &[u8]) -> Solution
     requires { ⌜ Sound feeder ⌝ }
-    ensures { λ r. ⌜ Solved feeder (ownOf feeder (offersOf (entries (now (file .entry))))) (r .best) (r .net) (r .sent) ⌝ }
+    ensures { λ r. ⌜ Solved feeder (ownOf feeder (offersOf (entries (now (records .entry))))) (r .best) (r .net) (r .sent) ⌝ }
 {
     let mut row: [u32; 2481] = [0; 2481];
     let mut messages: [u32; 2592] = [0; 2592];
     let mut choices: [u8; 37231] = [0; 37231];
-    upward::upward(feeder, file, &mut row, &mut messages, &mut choices);
+    upward::upward(feeder, records, &mut row, &mut messages, &mut choices);
     let chosen = downward::choose(feeder, &choices);
     downward::settle(feeder, messages[0], chosen)
 }

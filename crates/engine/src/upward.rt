@@ -9,10 +9,9 @@ ghost use Rattle.problem.proofs.Reach.{reach};
 ghost use Rattle.network.specs.inner.Feeders.{towardAt, awayAt, Sound};
 ghost use Rattle.records.specs.Records.{entries};
 ghost use Rattle.records.specs.Market.{offersOf};
-ghost use Rattle.engine.specs.inner.Words.{walkOf, topOf, ownOf, slotOf, Taken, Ready, Done};
+ghost use Rattle.engine.specs.inner.Words.{walkOf, topOf, ownOf, slotOf, Taken, Ready, Done, rowCells, messageCells, choicePlaces};
 use network::Feeder;
 use numbers::Units;
-use rows;
 
 // A byte as a place.
 pub fn wide(x: u8) -> usize
@@ -81,7 +80,7 @@ fn row_len(feeder: Feeder, v: usize) -> usize
 
 // The first len cells of the own row of the member at v, from its table.
 fn own_cells(feeder: Feeder, table: &[u8], v: usize, row: &mut [u32], len: usize)
-    requires { ⌜ Sound feeder × (v < feeder .members) × (len ≤ length (now row)) × (length (now row) ≡ 2481) ⌝ }
+    requires { ⌜ Sound feeder × (v < feeder .members) × (len ≤ length (now row)) × (length (now row) ≡ rowCells) ⌝ }
     ensures { λ _. ⌜ ((x : ℕ) → x < len → getD (now (row .exit)) x 0 ≡ ownOf feeder (offersOf (entries (now (table .entry)))) v x) ⌝ }
 {
     let t = top(feeder, v);
@@ -90,7 +89,7 @@ fn own_cells(feeder: Feeder, table: &[u8], v: usize, row: &mut [u32], len: usize
 
 // The message of position i, of w + 1 cells, taken into a row of len cells.
 fn take_in(messages: &[u32], row: &mut [u32], choices: &mut [u8], i: usize, w: usize, len: usize)
-    requires sizes { ⌜ (length (now messages) ≡ 2592) × (length (now row) ≡ 2481) × (length (now choices) ≡ 37231) ⌝ }
+    requires sizes { ⌜ (length (now messages) ≡ messageCells) × (length (now row) ≡ rowCells) × (length (now choices) ≡ choicePlaces) ⌝ }
     requires cells { ⌜ (1 ≤ i) × (i < 32) × (w ≤ 80) × (w < len) × (len ≤ w + (80 * (i - 1) + 1)) ⌝ }
     requires values { ⌜ ((p : ℕ) → p ≤ w → getD (now messages) (i * 81 + p) 0 < 2 ^ 31) × ((x : ℕ) → x < len → getD (now row) x 0 < 2 ^ 31) ⌝ }
     ensures { λ _. ⌜ Taken (now (messages .entry)) (now (row .entry)) (now (choices .entry)) (now (row .exit)) (now (choices .exit)) i w len ⌝ }
@@ -104,7 +103,7 @@ fn take_in(messages: &[u32], row: &mut [u32], choices: &mut [u8], i: usize, w: u
 
 // The first len cells of a row put in the store as the message of position v.
 fn put_message(row: &[u32], messages: &mut [u32], v: usize, len: usize)
-    requires { ⌜ (length (now row) ≡ 2481) × (length (now messages) ≡ 2592) × (v < 32) × (len ≤ 81) ⌝ }
+    requires { ⌜ (length (now row) ≡ rowCells) × (length (now messages) ≡ messageCells) × (v < 32) × (len ≤ 81) ⌝ }
     ensures ours { λ _. ⌜ ((x : ℕ) → x < len → getD (now (messages .exit)) (v * 81 + x) 0 ≡ getD (now (row .entry)) x 0) ⌝ }
     ensures others { λ _. ⌜ ((j : ℕ) → v * 81 + len ≤ j → getD (now (messages .exit)) j 0 ≡ getD (now (messages .entry)) j 0) ⌝ }
 {
@@ -123,7 +122,7 @@ fn member(
     choices: &mut [u8],
 )
     requires feeder { ⌜ Sound feeder × (v < feeder .members) ⌝ }
-    requires sizes { ⌜ (length (now row) ≡ 2481) × (length (now messages) ≡ 2592) × (length (now choices) ≡ 37231) ⌝ }
+    requires sizes { ⌜ (length (now row) ≡ rowCells) × (length (now messages) ≡ messageCells) × (length (now choices) ≡ choicePlaces) ⌝ }
     requires ready { ⌜ ((own : ℕ → ℕ → ℕ) × Ready feeder (now table) v (now messages) (now choices) own) ⌝ }
     ensures { λ _. ⌜ ((own : ℕ → ℕ → ℕ) → Ready feeder (now (table .entry)) v (now (messages .entry)) (now (choices .entry)) own → Done feeder v (now (messages .exit)) (now (choices .exit)) own) ⌝ }
 {
@@ -141,21 +140,21 @@ fn member(
     put_message(row, messages, v, len);
 }
 
-// Every member, the last of the walk first, where every table stands in the one file.
+// Every member, the last of the walk first, where every table stands in the same records.
 pub fn upward(
     feeder: Feeder,
-    file: &[u8],
+    records: &[u8],
     row: &mut [u32],
     messages: &mut [u32],
     choices: &mut [u8],
 )
     requires feeder { ⌜ Sound feeder ⌝ }
-    requires sizes { ⌜ (length (now row) ≡ 2481) × (length (now messages) ≡ 2592) × (length (now choices) ≡ 37231) ⌝ }
-    ensures { λ _. ⌜ Done feeder 0 (now (messages .exit)) (now (choices .exit)) (ownOf feeder (offersOf (entries (now (file .entry))))) ⌝ }
+    requires sizes { ⌜ (length (now row) ≡ rowCells) × (length (now messages) ≡ messageCells) × (length (now choices) ≡ choicePlaces) ⌝ }
+    ensures { λ _. ⌜ Done feeder 0 (now (messages .exit)) (now (choices .exit)) (ownOf feeder (offersOf (entries (now (records .entry))))) ⌝ }
 {
     let mut v = wide(feeder.members);
     while 0 < v {
         v -= 1;
-        member(feeder, file, v, row, messages, choices);
+        member(feeder, records, v, row, messages, choices);
     }
 }

@@ -47,7 +47,8 @@ closes earlier (fault k) = false
 unfoldable pub apart : Market → Option ℕ
 apart m = lowestMember (λ j. not (joined (m .links) 1 j)) (m .members)
 
--- refusals 5 to 10, of which 8 is never given: the first that applies, from each on
+-- refusals 5 to 10, of which 8 is never given: the first that applies, said from the last check back, since each check of the
+-- code goes on to the next
 abbrev pub from10 : List ℕ → Option Refusal
 from10 f = refusal 10 (apart (marketOf f))
 

@@ -310,4 +310,8 @@ merging-step o₀ o e a b m r l q M = record { done = λ i h. go i h (same? i e)
     go i h (inr x) = getD-set-other o e i r 0 (x .0) ∙ M .done i (omega (arith, x .0))
 
 pub merging-done : (o₀ o : List ℕ) (e k a b m : ℕ) → e ≡ k → k < length o → Merging o₀ o e a b m → Merged (λ e. getD o₀ e 0) (λ e. getD (set o k m) e 0) k a b m
-merging-done o₀ o e k a b m q l M = record { old = λ i h. getD-set-other o k i m 0 (λ x. omega arith) ∙ M .done i (omega arith); new = getD-set-same o k m 0 l }
+merging-done o₀ o e k a b m q l M = record {
+  old = λ i h. getD-set-other o k i m 0 (λ x. omega arith) ∙ M .done i (omega arith);
+  new = getD-set-same o k m 0 l;
+  past = λ i h. getD-set-other o k i m 0 (λ x. omega arith) ∙ M .rest i (omega arith);
+}

@@ -20,10 +20,10 @@ use Rattle.records.specs.Answer.{orZero, each, memberBytes, linkRecord}
 use Rattle.answer.specs.declared.links.Joint.{Joint}
 use Rattle.answer.specs.declared.links.Joint.the-variants as Joint
 
--- the nets and the flows ys of the market m, whose feeder is f and whose tables stand in the records `table`
-pub record Settles (m : Market) (ys : List ℤ) (table : List ℕ) (f : Feeder) (net sent : List Units) : Type 0 where
+-- the nets and the flows ys of the market m, whose feeder is f and whose tables stand in the records `records`
+pub record Settles (m : Market) (ys : List ℤ) (records : List ℕ) (f : Feeder) (net sent : List Units) : Type 0 where
   pub laid : Laid m f
-  pub tables : m .offers ≡ offersOf (entries table)
+  pub tables : m .offers ≡ offersOf (entries records)
   pub within : InRange (m .links) ys
   pub nets : (i : ℕ) → i < f .members → unitsIn net i ≡ P.net (memberAt f i) (m .links) ys
   pub first : unitsIn sent 0 ≡ pos 0
@@ -62,10 +62,10 @@ unfoldable pub linksBy : Feeder → (position : List ℕ) (sent : List Units) �
 linksBy f position sent = each (f .members) (λ a. each (f .members) (linkBy f position sent a))
 
 -- member j's record
-unfoldable pub memberBy : (table position : List ℕ) (net : List Units) → ℕ → List ℕ
-memberBy table position net j =
+unfoldable pub memberBy : (records position : List ℕ) (net : List Units) → ℕ → List ℕ
+memberBy records position net j =
     let x : ℤ = unitsIn net (positionIn position j) in
-    memberBytes j x (orZero (value (offersOf (entries table)) j x))
+    memberBytes j x (orZero (value (offersOf (entries records)) j x))
 
 -- no flow exceeds what its link carries
 abbrev pub Fitting : Feeder → List Units → Type 0

@@ -8,7 +8,7 @@ use Rattle.network.specs.inner.Laid.{Laid}
 use Rattle.records.specs.Records.{entries}
 use Rattle.records.specs.Market.{offersOf}
 
--- f is the feeder of the market m, and the records `table` hold its tables
-pub record Held (m : Market) (f : Feeder) (table : List ℕ) : Type 0 where
+-- f is the feeder of the market m, and the records `records` hold its tables
+pub record Held (m : Market) (f : Feeder) (records : List ℕ) : Type 0 where
   pub laid : Laid m f
-  pub tables : m .offers ≡ offersOf (entries table)
+  pub tables : m .offers ≡ offersOf (entries records)

@@ -13,7 +13,7 @@ begun c = c .before .before .before .before .before
 abbrev Chosen : tie.After-choose → Type 0
 Chosen c =
     let a = begun (c .before .before .before .before .before) .args in
-    Settled (walkOf (a .feeder) (ownOf (a .feeder) (offersOf (entries (a .file .now))))) (a .feeder .members) (c .choose .result .choice) (c .choose .result .index)
+    Settled (walkOf (a .feeder) (ownOf (a .feeder) (offersOf (entries (a .records .now))))) (a .feeder .members) (c .choose .result .choice) (c .choose .result .index)
 
 settled : (c : tie.After-choose) → Chosen c
 settled c = c .choose .ensures _ (c .before .before .before .before .before .upward .ensures .kept)

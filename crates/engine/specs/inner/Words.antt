@@ -34,6 +34,16 @@ topOf f v = around (λ i. parentAt f i) (λ i. towardAt f i) (λ i. awayAt f i) 
 unfoldable pub ownOf : Feeder → List Offer → ℕ → ℕ → ℕ
 ownOf f os v x = cellOf 1000000 (value os (memberAt f v) (pos (topOf f v) -ℤ pos x))
 
+-- the cells of a row, of the messages of 32 positions, and the places of their choices
+abbrev pub rowCells : ℕ
+rowCells = 2481
+
+abbrev pub messageCells : ℕ
+messageCells = 2592
+
+abbrev pub choicePlaces : ℕ
+choicePlaces = 37231
+
 -- no price is past 1,000,000
 abbrev pub Small : (ℕ → ℕ → ℕ) → Type 0
 Small own = (v x : ℕ) → own v x ≤ 2000001

@@ -14,7 +14,8 @@ unfoldable pub gather : (ℕ → ℕ) → ℕ → ℕ → ℕ → ℕ
 gather ms a b zero = bitOr (2 ^ a) (2 ^ b)
 gather ms a b (suc e) = cond (touches (ms e) a b) (bitOr (gather ms a b e) (ms e)) (gather ms a b e)
 
--- a set that holds an end becomes m, and m is the new link's
+-- a set that holds an end becomes m, m is the new link's, and what stands past it stays
 pub record Merged (ms ms′ : ℕ → ℕ) (k a b m : ℕ) : Type 0 where
   pub old : (e : ℕ) → e < k → ms′ e ≡ cond (touches (ms e) a b) m (ms e)
   pub new : ms′ k ≡ m
+  pub past : (e : ℕ) → k < e → ms′ e ≡ ms e

@@ -12,12 +12,12 @@ use Rattle.engine.proofs.upward.upward.Statement.{statement}
 use Rattle.engine.proofs.upward.upward.Tie as tie
 
 abbrev Inv-loop : tie.InvT-loop
-Inv-loop feeder file row₀ messages₀ choices₀ v₀ row messages choices v =
+Inv-loop feeder records row₀ messages₀ choices₀ v₀ row messages choices v =
     (v ≤ feeder .members) × ((length row ≡ 2481) × (length messages ≡ 2592) × (length choices ≡ 37231))
-    × Done feeder v messages choices (ownOf feeder (offersOf (entries file)))
+    × Done feeder v messages choices (ownOf feeder (offersOf (entries records)))
 
 abbrev μ-loop : tie.MeasureT-loop
-μ-loop feeder file row₀ messages₀ choices₀ v₀ row messages choices v = v
+μ-loop feeder records row₀ messages₀ choices₀ v₀ row messages choices v = v
 
 abbrev begun : tie.At-loop Inv-loop μ-loop → tie.Start Inv-loop μ-loop
 begun c = c .before .before .before .before .before .before
@@ -38,7 +38,7 @@ member-requires c κs =
     let h = c .before .before .before .before in
     let i = h .loop .inv in
     let l = c .before .before .before .loop-test .taken in
-    ((begun h .pre .0, omega (arith, i .0)), (i .1, (_, done-next (begun h .args .feeder) (begun h .args .file .now) _ _ _ l (i .2))))
+    ((begun h .pre .0, omega (arith, i .0)), (i .1, (_, done-next (begun h .args .feeder) (begun h .args .records .now) _ _ _ l (i .2))))
 
 loop-less : tie.Need-loop-less Inv-loop μ-loop
 loop-less c = omega (arith, c .before .before .before .before .before .before .before .before .before .before .loop-test .taken)
@@ -50,7 +50,7 @@ loop-again c =
     let i = h .loop .inv in (
       omega (arith, i .0),
       (m .kept .1 .1 .1 .0 ∙ i .1 .0, m .kept .1 .1 .1 .1 .0 ∙ i .1 .1, m .kept .1 .1 .1 .1 .1 .0 ∙ i .1 .2),
-      m .ensures _ (done-next (begun h .args .feeder) (begun h .args .file .now) _ _ _ (c .before .before .before .before .before .before .before .before .before .before .loop-test .taken) (i .2)),
+      m .ensures _ (done-next (begun h .args .feeder) (begun h .args .records .now) _ _ _ (c .before .before .before .before .before .before .before .before .before .before .loop-test .taken) (i .2)),
     )
 
 same-length : tie.Need-same-length Inv-loop μ-loop
@@ -66,7 +66,7 @@ returns : tie.Need-returns Inv-loop μ-loop
 returns c =
     let a = begun (c .before) .args in
     let e : c .before .loop .v ≡ 0 = omega arith in
-    subst (λ (t : ℕ). Done (a .feeder) t (c .before .loop .messages) (c .before .loop .choices) (ownOf (a .feeder) (offersOf (entries (a .file .now))))) e (c .before .loop .inv .2)
+    subst (λ (t : ℕ). Done (a .feeder) t (c .before .loop .messages) (c .before .loop .choices) (ownOf (a .feeder) (offersOf (entries (a .records .now))))) e (c .before .loop .inv .2)
 
 pub upward-spec : {M : Type 1} → statement M
 upward-spec =
