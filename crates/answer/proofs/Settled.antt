@@ -19,8 +19,7 @@ use Rattle.problem.proofs.Tree.{Tree}
 use Rattle.problem.proofs.Count.{same?, either}
 use Rattle.problem.proofs.Max.{pick}
 use Rattle.problem.proofs.Links.{Ends}
-use Rattle.problem.proofs.Steps.{Hop}
-use Rattle.problem.proofs.Places.{fromPos}
+use Rattle.problem.proofs.Places.{from-first}
 use Rattle.problem.proofs.Transfer.{upward}
 use Rattle.problem.proofs.Flows.{at, as-many, sent-place}
 use Rattle.problem.proofs.Arrange.{linkAt, within-at, stops, parent, member, ordOf, linkOf, lowerOf, placeIn, reachedBy, near, steps, ord-suc, one-fewer, arranged, link-only}
@@ -95,10 +94,6 @@ module _ (m : Market) (R : Tree m) where
   high-end : (d : ℕ) → d < length (m .links) → (b : Bool) → lowerOf m (suc d) ≡ b → linkAt (m .links) (linkOf m (suc d)) .b ≡ pick b (member m (parent m (suc d))) (member m (suc d))
   high-end d l true t = arranged m R .child-low d l t .1 ∙ ord-suc m R (parent m (suc d))
   high-end d l false t = arranged m R .child-high d l t .0 ∙ ord-suc m R (suc d)
-
-from-first : (t : List Hop) → fromPos t 0 ≡ 0
-from-first [] = refl
-from-first (s ∷ t) = ap (λ (b : Bool). pick b (s .from) (fromPos t 0)) (ne-eqb 0 (suc (length t)) (λ e. omega arith)) ∙ from-first t
 
 range-at : {ls : List Link} {ys : List ℤ} → InRange ls ys → (e : ℕ) → e < length ls → natAbs (at ys e) ≤ linkAt ls e .capacity
 range-at end e l = absurd (omega arith)

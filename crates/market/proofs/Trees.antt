@@ -16,7 +16,7 @@ use Rattle.problem.proofs.Joins.{joined-is}
 use Rattle.problem.proofs.Max.{pick}
 use Rattle.problem.proofs.Count.{same?, lowest-below, lowest-is}
 use Rattle.problem.proofs.Steps.{Hop, Walked, atPos, at-before, walk-walked, walk-all, pos-one}
-use Rattle.problem.proofs.Places.{fromPos, from-before, from-latest, from-lt}
+use Rattle.problem.proofs.Places.{fromPos, from-first, from-before, from-latest, from-lt}
 use Rattle.problem.proofs.Branch.{names, walk-names}
 use Rattle.problem.proofs.Arrange.{linkAt, placeOf, stops, member, parent, linkOf}
 use Rattle.records.specs.Refusals.{placeIf}
@@ -64,13 +64,9 @@ member-names (s ∷ t) i =
     ap (λ (k : ℕ). cond (eqb i (suc k)) (s .at) (reachedAt (names t) i)) (length-names t)
     ∙ cond-pick (eqb i (suc (length t))) (s .at) (reachedAt (names t) i) (atPos t i) (member-names t i)
 
-from-zero : (t : List Hop) → fromPos t 0 ≡ 0
-from-zero [] = refl
-from-zero (s ∷ t) = from-before s t 0 zero-le ∙ from-zero t
-
 -- a position is reached from one that is no later
 pub from-le : (ls : List Link) (n : ℕ) (t : List Hop) → Walked ls n t → (i : ℕ) → fromPos t i ≤ i
-from-le ls n t w zero = omega (arith, from-zero t)
+from-le ls n t w zero = omega (arith, from-first t)
 from-le ls n t w (suc i) = omega (arith, from-lt ls n t w (suc i) (omega arith))
 
 module _ (ls : List Link) (n : ℕ) where
