@@ -1,6 +1,11 @@
 //! A market's answer as typed values: `docs/RULES.md`, "Records out".
 
-use crate::{clear, Market, Member, Price, Refusal, Units, ANSWER_LIMIT};
+use crate::record::links;
+use crate::stored::{check, NoAnswer};
+#[cfg(feature = "alloc")]
+use crate::Market;
+use crate::{clear, Member, Price, Refusal, Units, ANSWER_LIMIT};
+use core::fmt;
 
 /// The load of a link whose flow is its whole capacity.
 pub const FULL: u16 = 1000;
@@ -8,15 +13,16 @@ pub const FULL: u16 = 1000;
 /// The load of a link of capacity 0: a mark and not a measure.
 pub const CLOSED: u16 = 9999;
 
+/// The most members that a market has.
+pub(crate) const MEMBERS: usize = 32;
+
 /// The answer to a market.
-#[derive(Clone, Debug, PartialEq, Eq)]
+#[derive(Clone, PartialEq, Eq)]
 pub struct Answer {
-    /// Every member, by its number.
-    pub members: Vec<MemberNet>,
-    /// Every link, by its lower member and then by its higher one.
-    pub links: Vec<LinkFlow>,
-    /// The sum of the members' values.
-    pub total: Price,
+    count: usize,
+    members: [MemberNet; MEMBERS],
+    links: [LinkFlow; MEMBERS - 1],
+    total: Price,
 }
 
 /// What one member trades.
@@ -38,14 +44,36 @@ pub struct LinkFlow {
     pub b: Member,
     /// The units that `a` sells to `b`, negative where `a` buys.
     pub flow: Units,
-    /// The flow's size in thousandths of the link's own capacity, rounded down, or [`CLOSED`].
+    /// The link's own capacity in this market.
+    pub capacity: Units,
+    /// The flow's size in thousandths of the capacity, rounded down: at most [`FULL`], or
+    /// [`CLOSED`].
     pub load: u16,
 }
 
-/// Clears a market.
+/// Clears the market in a file, whatever its bytes are.
+///
+/// This needs the stack of [`clear`], and that of an answer: its bytes and its typed value, which
+/// are about 1,100 bytes together.
 ///
 /// ```
-/// use clearing::{clear_market, Market, Member, Price, Units};
+/// use clearing::{clear_file, Member, Price, Refusal, Units};
+///
+/// let answer = clear_file(&[2, 1, 0, 0, 0xD8, 0xFF, 0xFF, 0xFF])?;
+/// assert_eq!(answer.total(), Price(-40));
+/// assert_eq!(clear_file(b"not records"), Err(Refusal::CutShort));
+/// # Ok::<(), Refusal>(())
+/// ```
+pub fn clear_file(file: &[u8]) -> Result<Answer, Refusal> {
+    let mut area = [0; ANSWER_LIMIT];
+    let written = clear(file, &mut area)?;
+    Ok(Answer::read(file, &area[..written]))
+}
+
+/// Clears a market: [`clear_file`] of its file.
+///
+/// ```
+/// use clearing::{clear_market, Market, Member, Price, Refusal, Units};
 ///
 /// let mut market = Market::new();
 /// market
@@ -53,45 +81,163 @@ pub struct LinkFlow {
 ///     .offer(Member(1), Units(1), Price(5))
 ///     .offer(Member(2), Units(-1), Price(-9));
 /// let answer = clear_market(&market)?;
-/// assert_eq!(answer.members[1].net, Units(-1));
-/// assert_eq!((answer.links[0].flow, answer.links[0].load), (Units(-1), clearing::FULL));
-/// assert_eq!(answer.total, Price(-4));
+/// assert_eq!(answer.member(Member(2)).unwrap().net, Units(-1));
+/// let link = answer.link(Member(1), Member(2)).unwrap();
+/// assert_eq!((link.flow, link.capacity, link.load), (Units(-1), Units(1), clearing::FULL));
+/// assert_eq!(answer.total(), Price(-4));
 ///
 /// // A better entry for the same units counts in place of the first.
 /// market.offer(Member(1), Units(1), Price(6));
-/// assert_eq!(clear_market(&market)?.total, Price(-3));
+/// assert_eq!(clear_market(&market)?.total(), Price(-3));
 ///
 /// // Member 3 has no link.
 /// market.offer(Member(3), Units(0), Price(0));
-/// assert_eq!(clear_market(&market).unwrap_err().number, 10);
-/// # Ok::<(), clearing::Refusal>(())
+/// assert_eq!(clear_market(&market), Err(Refusal::Apart { member: Member(3) }));
+/// # Ok::<(), Refusal>(())
 /// ```
+#[cfg(feature = "alloc")]
 pub fn clear_market(market: &Market) -> Result<Answer, Refusal> {
-    let mut area = [0; ANSWER_LIMIT];
-    let written = clear(market.file(), &mut area)?;
-    let mut answer = Answer {
-        members: Vec::new(),
-        links: Vec::new(),
-        total: Price(0),
-    };
-    let (records, _) = area.as_chunks::<8>();
-    for record in records.iter().take(written / 8) {
-        match *record {
-            [3, member, n0, n1, v0, v1, v2, v3] => answer.members.push(MemberNet {
-                member: Member(member),
-                net: Units(i16::from_le_bytes([n0, n1])),
-                value: Price(i32::from_le_bytes([v0, v1, v2, v3])),
-            }),
-            [4, a, b, _, f0, f1, l0, l1] => answer.links.push(LinkFlow {
-                a: Member(a),
-                b: Member(b),
-                flow: Units(i16::from_le_bytes([f0, f1])),
-                load: u16::from_le_bytes([l0, l1]),
-            }),
-            [_, _, _, _, t0, t1, t2, t3] => {
-                answer.total = Price(i32::from_le_bytes([t0, t1, t2, t3]));
+    clear_file(market.file())
+}
+
+impl Answer {
+    /// The answer in bytes that [`clear`] wrote once, beside the file that it answers: the bytes of
+    /// an answer do not say what a link can carry.
+    ///
+    /// This says that the bytes are records of the market's members and links. It does not say that
+    /// they are its best allocation, or one at all.
+    ///
+    /// ```
+    /// use clearing::{clear, Answer, NoAnswer, ANSWER_LIMIT};
+    ///
+    /// let file = [2, 1, 0, 0, 0, 0, 0, 0];
+    /// let mut area = [0; ANSWER_LIMIT];
+    /// let written = clear(&file, &mut area)?;
+    /// let answer = Answer::decode(&file, &area[..written])?;
+    /// assert_eq!(answer, clearing::clear_file(&file)?);
+    ///
+    /// let wrong = Answer::decode(&file, b"sixteen letters.").unwrap_err();
+    /// assert_eq!(wrong.to_string(), "record 0 is not that of member 1");
+    /// # Ok::<(), Box<dyn std::error::Error>>(())
+    /// ```
+    pub fn decode(file: &[u8], answer: &[u8]) -> Result<Answer, NoAnswer> {
+        check(file, answer)?;
+        Ok(Answer::read(file, answer))
+    }
+
+    /// The answer in bytes that are one.
+    fn read(file: &[u8], bytes: &[u8]) -> Answer {
+        let count = bytes.len() / 16;
+        let mut answer = Answer {
+            count,
+            members: [MemberNet::NONE; MEMBERS],
+            links: [LinkFlow::NONE; MEMBERS - 1],
+            total: Price(0),
+        };
+        let (records, _) = bytes.as_chunks();
+        let (members, others) = records.split_at(count);
+        for (entry, record) in answer.members.iter_mut().zip(members) {
+            *entry = MemberNet::read(record);
+        }
+        if let Some((total, links)) = others.split_last() {
+            for (entry, record) in answer.links.iter_mut().zip(links) {
+                *entry = LinkFlow::read(record);
+            }
+            answer.total = amount(total);
+        }
+        answer.set_capacities(file);
+        answer
+    }
+
+    /// Takes each link's capacity from its record in the file.
+    fn set_capacities(&mut self, file: &[u8]) {
+        for link in links(file) {
+            let mut entries = self.links.iter_mut();
+            if let Some(entry) = entries.find(|entry| (entry.a, entry.b) == (link.a, link.b)) {
+                entry.capacity = link.capacity;
             }
         }
     }
-    Ok(answer)
+
+    /// Every member, by its number.
+    pub fn members(&self) -> &[MemberNet] {
+        &self.members[..self.count]
+    }
+
+    /// What a member trades; none where the market has no such member.
+    pub fn member(&self, member: Member) -> Option<&MemberNet> {
+        self.members().iter().find(|entry| entry.member == member)
+    }
+
+    /// Every link, by its lower member and then by its higher one.
+    pub fn links(&self) -> &[LinkFlow] {
+        &self.links[..self.count.saturating_sub(1)]
+    }
+
+    /// What the link between two members carries, in whichever order they are given; none where no
+    /// link joins them directly.
+    pub fn link(&self, x: Member, y: Member) -> Option<&LinkFlow> {
+        let ends = (x.min(y), x.max(y));
+        self.links().iter().find(|link| (link.a, link.b) == ends)
+    }
+
+    /// The sum of the members' values.
+    pub fn total(&self) -> Price {
+        self.total
+    }
+}
+
+impl fmt::Debug for Answer {
+    fn fmt(&self, f: &mut fmt::Formatter) -> fmt::Result {
+        f.debug_struct("Answer")
+            .field("members", &self.members())
+            .field("links", &self.links())
+            .field("total", &self.total)
+            .finish()
+    }
+}
+
+impl MemberNet {
+    const NONE: MemberNet = MemberNet {
+        member: Member(0),
+        net: Units(0),
+        value: Price(0),
+    };
+
+    fn read(record: &[u8; 8]) -> MemberNet {
+        let [_, member, n0, n1, ..] = *record;
+        MemberNet {
+            member: Member(member),
+            net: Units(i16::from_le_bytes([n0, n1])),
+            value: amount(record),
+        }
+    }
+}
+
+impl LinkFlow {
+    const NONE: LinkFlow = LinkFlow {
+        a: Member(0),
+        b: Member(0),
+        flow: Units(0),
+        capacity: Units(0),
+        load: 0,
+    };
+
+    /// All but the capacity, which the record does not have.
+    fn read(record: &[u8; 8]) -> LinkFlow {
+        let [_, a, b, _, f0, f1, l0, l1] = *record;
+        LinkFlow {
+            a: Member(a),
+            b: Member(b),
+            flow: Units(i16::from_le_bytes([f0, f1])),
+            load: u16::from_le_bytes([l0, l1]),
+            ..LinkFlow::NONE
+        }
+    }
+}
+
+/// The amount of money in a record's last 4 bytes.
+fn amount(record: &[u8; 8]) -> Price {
+    let [_, _, _, _, p0, p1, p2, p3] = *record;
+    Price(i32::from_le_bytes([p0, p1, p2, p3]))
 }

@@ -2,8 +2,9 @@
 //! offers, in one half hour. The answer is the trade of highest total and the flow on every link.
 //!
 //! The work is done by a proved library; this package is the way to it from Rust. [`clear`] lends
-//! it a file and an answer area as bytes. [`clear_market`] does the same with typed values: a
-//! [`Market`] goes in, an [`Answer`] or a [`Refusal`] comes out. No input makes either panic.
+//! it a file and an answer area as bytes. [`clear_file`] takes a file's bytes and gives a typed
+//! [`Answer`] or a [`Refusal`], and [`clear_market`] takes a [`Market`] of typed records. No input
+//! makes any of them panic.
 //!
 //! ```
 //! use clearing::{clear_market, Market, Member, Price, Units};
@@ -16,19 +17,46 @@
 //!     .offer(Member(2), Units(0), Price(0))
 //!     .offer(Member(2), Units(2), Price(180));
 //! let answer = clear_market(&market)?;
-//! assert_eq!(answer.total, Price(80));
-//! assert_eq!(answer.links[0].flow, Units(2));
+//! assert_eq!(answer.total(), Price(80));
+//! assert_eq!(answer.links()[0].flow, Units(2));
 //! # Ok::<(), clearing::Refusal>(())
 //! ```
+//!
+//! # Building
+//!
+//! The package links `libentry.a`, which `rt staticlib entry` writes to `target/staticlib/` of the
+//! checkout that this package stands in. A service that is built elsewhere names the folder of its
+//! archive in the variable `CLEARING_ARCHIVE`. The archive is for x86-64 Linux. One binary can hold
+//! one version of this package: the archives of two would be taken for each other.
+//!
+//! The package needs no standard library. Without its feature `alloc` (on by default) it has no
+//! [`Market`] and allocates nothing.
+
+#![no_std]
+
+#[cfg(feature = "alloc")]
+extern crate alloc;
 
 mod answer;
+#[cfg(feature = "alloc")]
 mod market;
 mod numbers;
 mod raw;
+mod record;
 mod refusal;
+mod stored;
+#[cfg(feature = "alloc")]
+mod text;
 
-pub use answer::{clear_market, Answer, LinkFlow, MemberNet, CLOSED, FULL};
+#[cfg(feature = "alloc")]
+pub use answer::clear_market;
+pub use answer::{clear_file, Answer, LinkFlow, MemberNet, CLOSED, FULL};
+#[cfg(feature = "alloc")]
 pub use market::Market;
 pub use numbers::{Member, Price, Units};
-pub use raw::{clear, ANSWER_LIMIT, FILE_LIMIT};
+pub use raw::{clear, ANSWER_LIMIT, FILE_LIMIT, STACK};
+pub use record::{records, Link, Offer, Record};
 pub use refusal::Refusal;
+pub use stored::NoAnswer;
+#[cfg(feature = "alloc")]
+pub use text::{Fault, Field, Unreadable};

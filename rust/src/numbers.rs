@@ -1,7 +1,7 @@
 //! A member's number, a count of energy units and a price: three types, so that none is taken for
 //! another. None of them is checked here; the library refuses what is out of range.
 
-use std::fmt;
+use core::fmt;
 
 /// A member's number, from 1 to 32.
 #[derive(Clone, Copy, Debug, PartialEq, Eq, PartialOrd, Ord, Hash)]

@@ -9,6 +9,9 @@ pub const FILE_LIMIT: usize = 16_632;
 /// The most bytes that an answer has: 16 for each of 32 members.
 pub const ANSWER_LIMIT: usize = 512;
 
+/// Bytes of stack that are enough for a call of [`clear`], whatever the file.
+pub const STACK: usize = 72 * 1024;
+
 extern "C" {
     fn clearing_clear(file: *const u8, file_len: usize, answer: *mut u8, answer_len: usize) -> u64;
 }
@@ -17,6 +20,9 @@ extern "C" {
 ///
 /// Gives the number of bytes written, 16 for each member; the bytes after them stay as they were.
 /// A refusal changes no byte. [`ANSWER_LIMIT`] bytes are enough for every market.
+///
+/// A call needs [`STACK`] bytes of stack at most (68,944 were measured, by the example `bench`) and
+/// no heap.
 ///
 /// ```
 /// // One member that offers to stand idle at no price.

@@ -1,58 +1,136 @@
 //! Why a market was not cleared: `docs/RULES.md`, "Refusals".
 
-use std::error::Error;
-use std::fmt;
+use crate::Member;
+use core::error::Error;
+use core::fmt;
 
-/// A refusal: its number in the table and its place.
+/// Why a market was not cleared. Records count from 0.
 ///
-/// The place is a record's number counted from 0, a member, a number of bytes or nothing, as the
-/// table says for each number. [`Display`](fmt::Display) says it in words.
+/// | number | refusal | given when | place |
+/// |---|---|---|---|
+/// | 1 | [`TooLong`](Refusal::TooLong) | the file has more than 16,632 bytes | 0 |
+/// | 2 | [`CutShort`](Refusal::CutShort) | its number of bytes is not a multiple of 8 | 0 |
+/// | 3 | [`UnknownKind`](Refusal::UnknownKind) | a record has a kind other than 1 and 2 | the record |
+/// | 4 | [`WrongField`](Refusal::WrongField) | a record has a field outside its range, another value where zero must stand, or an a that is not below its b | the record |
+/// | 5 | [`NoOffer`](Refusal::NoOffer) | no record is an offer | 0 |
+/// | 6 | [`EmptyTable`](Refusal::EmptyTable) | a member from 1 to the highest has no offer | the lowest such member |
+/// | 7 | [`LongTable`](Refusal::LongTable) | a member has more than 64 offers | the lowest such member |
+/// | 8 | | never | |
+/// | 9 | [`Ring`](Refusal::Ring) | a link joins two members that earlier links have joined | the first such record |
+/// | 10 | [`Apart`](Refusal::Apart) | a member is not joined to member 1 | the lowest such member |
+/// | 11 | [`ShortArea`](Refusal::ShortArea) | the answer area has fewer than 16 bytes for each member | the bytes it must have |
+/// | 12 | [`Impossible`](Refusal::Impossible) | no allocation is possible | 0 |
+///
+/// The checks are made in the order of the numbers, but for 3 and 4, of which the first record at
+/// fault decides. A refusal is one of these and nothing else, so a `match` needs no `_`; a request
+/// that adds a refusal adds a case, and changes this package's version.
 ///
 /// ```
-/// let refusal = clearing::clear(&[2, 1, 5, 0, 132, 3, 0, 0], &mut [0; 16]).unwrap_err();
-/// assert_eq!((refusal.number, refusal.place), (12, 0));
+/// use clearing::{clear_file, Refusal};
+///
+/// let refusal = clear_file(&[2, 1, 5, 0, 132, 3, 0, 0]).unwrap_err();
+/// assert_eq!(refusal, Refusal::Impossible);
+/// assert_eq!((refusal.number(), refusal.place()), (12, 0));
 /// assert_eq!(refusal.to_string(), "no possible allocation (refusal 12)");
 /// ```
 #[derive(Clone, Copy, Debug, PartialEq, Eq, Hash)]
-pub struct Refusal {
-    /// From 1 to 12, and never 8.
-    pub number: u64,
-    /// Where it lies: a record, a member, or the bytes that are asked for.
-    pub place: u64,
+pub enum Refusal {
+    TooLong,
+    CutShort,
+    UnknownKind { record: usize },
+    WrongField { record: usize },
+    NoOffer,
+    EmptyTable { member: Member },
+    LongTable { member: Member },
+    Ring { record: usize },
+    Apart { member: Member },
+    ShortArea { needed: usize },
+    Impossible,
 }
 
 impl Refusal {
+    /// The refusal's number in the table.
+    pub fn number(&self) -> u64 {
+        match self {
+            Refusal::TooLong => 1,
+            Refusal::CutShort => 2,
+            Refusal::UnknownKind { .. } => 3,
+            Refusal::WrongField { .. } => 4,
+            Refusal::NoOffer => 5,
+            Refusal::EmptyTable { .. } => 6,
+            Refusal::LongTable { .. } => 7,
+            Refusal::Ring { .. } => 9,
+            Refusal::Apart { .. } => 10,
+            Refusal::ShortArea { .. } => 11,
+            Refusal::Impossible => 12,
+        }
+    }
+
+    /// The refusal's place: a record, a member, the bytes that are asked for, or 0.
+    pub fn place(&self) -> u64 {
+        match *self {
+            Refusal::UnknownKind { record }
+            | Refusal::WrongField { record }
+            | Refusal::Ring { record } => record as u64,
+            Refusal::EmptyTable { member }
+            | Refusal::LongTable { member }
+            | Refusal::Apart { member } => member.0.into(),
+            Refusal::ShortArea { needed } => needed as u64,
+            Refusal::TooLong | Refusal::CutShort | Refusal::NoOffer | Refusal::Impossible => 0,
+        }
+    }
+
     /// The refusal in the entry's result; none where the result is a number of bytes written.
+    ///
+    /// The library gives no number but those of the table. Another one would mean that an archive
+    /// of other rules is linked, and nothing that it answers could be trusted.
     pub(crate) fn of(code: u64) -> Option<Refusal> {
-        let (number, place) = (code / 65_536, code % 65_536);
-        (number != 0).then_some(Refusal { number, place })
+        let (number, place) = (code / 65_536, (code % 65_536) as usize);
+        let record = place;
+        let member = Member(place as u8);
+        let needed = place;
+        Some(match number {
+            0 => return None,
+            1 => Refusal::TooLong,
+            2 => Refusal::CutShort,
+            3 => Refusal::UnknownKind { record },
+            4 => Refusal::WrongField { record },
+            5 => Refusal::NoOffer,
+            6 => Refusal::EmptyTable { member },
+            7 => Refusal::LongTable { member },
+            9 => Refusal::Ring { record },
+            10 => Refusal::Apart { member },
+            11 => Refusal::ShortArea { needed },
+            12 => Refusal::Impossible,
+            _ => panic!("the archive linked is not of this version: it gave refusal {number}"),
+        })
     }
 }
 
 impl fmt::Display for Refusal {
     fn fmt(&self, f: &mut fmt::Formatter) -> fmt::Result {
-        let place = self.place;
-        match self.number {
-            1 => write!(f, "more than 16,632 bytes"),
-            2 => write!(f, "length not a multiple of 8"),
-            3 => write!(f, "kind is neither 1 nor 2, in record {place}"),
-            4 => write!(
+        match self {
+            Refusal::TooLong => write!(f, "more than 16,632 bytes"),
+            Refusal::CutShort => write!(f, "length not a multiple of 8"),
+            Refusal::UnknownKind { record } => {
+                write!(f, "kind is neither 1 nor 2, in record {record}")
+            }
+            Refusal::WrongField { record } => write!(
                 f,
-                "a field out of range, a zero byte not zero, or a not below b, in record {place}"
+                "a field out of range, a zero byte not zero, or a not below b, in record {record}"
             ),
-            5 => write!(f, "no offer record"),
-            6 => write!(f, "member {place} has no offer"),
-            7 => write!(f, "member {place} has more than 64 offers"),
-            9 => write!(
+            Refusal::NoOffer => write!(f, "no offer record"),
+            Refusal::EmptyTable { member } => write!(f, "member {member} has no offer"),
+            Refusal::LongTable { member } => write!(f, "member {member} has more than 64 offers"),
+            Refusal::Ring { record } => write!(
                 f,
-                "a link joins members already joined by earlier links, in record {place}"
+                "a link joins members already joined by earlier links, in record {record}"
             ),
-            10 => write!(f, "member {place} is not joined to member 1"),
-            11 => write!(f, "answer area shorter than {place} bytes"),
-            12 => write!(f, "no possible allocation"),
-            _ => write!(f, "place {place}"),
+            Refusal::Apart { member } => write!(f, "member {member} is not joined to member 1"),
+            Refusal::ShortArea { needed } => write!(f, "answer area shorter than {needed} bytes"),
+            Refusal::Impossible => write!(f, "no possible allocation"),
         }?;
-        write!(f, " (refusal {})", self.number)
+        write!(f, " (refusal {})", self.number())
     }
 }
 

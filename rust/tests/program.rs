@@ -55,7 +55,7 @@ fn lines(file: &[u8]) -> String {
     let mut area = [0; ANSWER_LIMIT];
     let written = match clear(file, &mut area) {
         Ok(written) => written,
-        Err(refusal) => return format!("R {} {}\n", refusal.number, refusal.place),
+        Err(refusal) => return format!("R {} {}\n", refusal.number(), refusal.place()),
     };
     let (records, _) = area[..written].as_chunks();
     let line = |record: &[u8; 8]| match *record {

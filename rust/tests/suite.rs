@@ -5,7 +5,6 @@ mod closely;
 mod common;
 mod dynamic;
 mod examples;
-mod feeder;
 mod files;
 mod large;
 mod listed;

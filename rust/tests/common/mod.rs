@@ -29,6 +29,6 @@ pub fn cleared(file: &[u8], room: usize, random: &mut Random) -> Result<Vec<u8>,
     assert_eq!(around[end..], before[end..], "after {written} bytes");
     match result {
         Ok(_) => Ok(around[GUARD..end].to_vec()),
-        Err(refusal) => Err((refusal.number, refusal.place)),
+        Err(refusal) => Err((refusal.number(), refusal.place())),
     }
 }

@@ -1,0 +1,3 @@
+//! What the operator's tools `market` and `feeder` are made of.
+
+pub mod tool;
