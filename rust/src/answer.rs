@@ -2,10 +2,9 @@
 
 use crate::record::links;
 use crate::stored::{check, NoAnswer};
-#[cfg(feature = "alloc")]
-use crate::Market;
-use crate::{clear, Member, Price, Refusal, Units, ANSWER_LIMIT};
-use core::fmt;
+use crate::{clear, Market, Member, Price, Refusal, Units, ANSWER_LIMIT};
+use alloc::vec;
+use alloc::vec::Vec;
 
 /// The load of a link whose flow is its whole capacity.
 pub const FULL: u16 = 1000;
@@ -13,15 +12,11 @@ pub const FULL: u16 = 1000;
 /// The load of a link of capacity 0: a mark and not a measure.
 pub const CLOSED: u16 = 9999;
 
-/// The most members that a market has.
-pub(crate) const MEMBERS: usize = 32;
-
 /// The answer to a market.
-#[derive(Clone, PartialEq, Eq)]
+#[derive(Clone, Debug, PartialEq, Eq)]
 pub struct Answer {
-    count: usize,
-    members: [MemberNet; MEMBERS],
-    links: [LinkFlow; MEMBERS - 1],
+    members: Vec<MemberNet>,
+    links: Vec<LinkFlow>,
     total: Price,
 }
 
@@ -53,11 +48,10 @@ pub struct LinkFlow {
 
 /// Clears the market in a file, whatever its bytes are.
 ///
-/// This needs the stack of [`clear`], and that of an answer: its bytes and its typed value, which
-/// are about 1,100 bytes together.
+/// The answer stands on the heap: this needs hardly more stack than [`clear`].
 ///
 /// ```
-/// use clearing::{clear_file, Member, Price, Refusal, Units};
+/// use clearing::{clear_file, Price, Refusal};
 ///
 /// let answer = clear_file(&[2, 1, 0, 0, 0xD8, 0xFF, 0xFF, 0xFF])?;
 /// assert_eq!(answer.total(), Price(-40));
@@ -65,7 +59,7 @@ pub struct LinkFlow {
 /// # Ok::<(), Refusal>(())
 /// ```
 pub fn clear_file(file: &[u8]) -> Result<Answer, Refusal> {
-    let mut area = [0; ANSWER_LIMIT];
+    let mut area = vec![0; ANSWER_LIMIT];
     let written = clear(file, &mut area)?;
     Ok(Answer::read(file, &area[..written]))
 }
@@ -95,7 +89,6 @@ pub fn clear_file(file: &[u8]) -> Result<Answer, Refusal> {
 /// assert_eq!(clear_market(&market), Err(Refusal::Apart { member: Member(3) }));
 /// # Ok::<(), Refusal>(())
 /// ```
-#[cfg(feature = "alloc")]
 pub fn clear_market(market: &Market) -> Result<Answer, Refusal> {
     clear_file(market.file())
 }
@@ -120,31 +113,21 @@ impl Answer {
     /// assert_eq!(wrong.to_string(), "record 0 is not that of member 1");
     /// # Ok::<(), Box<dyn std::error::Error>>(())
     /// ```
-    pub fn decode(file: &[u8], answer: &[u8]) -> Result<Answer, NoAnswer> {
-        check(file, answer)?;
-        Ok(Answer::read(file, answer))
+    pub fn decode(file: &[u8], bytes: &[u8]) -> Result<Answer, NoAnswer> {
+        check(file, bytes)?;
+        Ok(Answer::read(file, bytes))
     }
 
     /// The answer in bytes that are one.
     fn read(file: &[u8], bytes: &[u8]) -> Answer {
-        let count = bytes.len() / 16;
-        let mut answer = Answer {
-            count,
-            members: [MemberNet::NONE; MEMBERS],
-            links: [LinkFlow::NONE; MEMBERS - 1],
-            total: Price(0),
-        };
         let (records, _) = bytes.as_chunks();
-        let (members, others) = records.split_at(count);
-        for (entry, record) in answer.members.iter_mut().zip(members) {
-            *entry = MemberNet::read(record);
-        }
-        if let Some((total, links)) = others.split_last() {
-            for (entry, record) in answer.links.iter_mut().zip(links) {
-                *entry = LinkFlow::read(record);
-            }
-            answer.total = amount(total);
-        }
+        let (members, others) = records.split_at(records.len() / 2);
+        let (total, links) = others.split_last().unwrap_or((&[0; 8], &[]));
+        let mut answer = Answer {
+            members: members.iter().map(MemberNet::read).collect(),
+            links: links.iter().map(LinkFlow::read).collect(),
+            total: amount(total),
+        };
         answer.set_capacities(file);
         answer
     }
@@ -161,24 +144,24 @@ impl Answer {
 
     /// Every member, by its number.
     pub fn members(&self) -> &[MemberNet] {
-        &self.members[..self.count]
+        &self.members
     }
 
     /// What a member trades; none where the market has no such member.
     pub fn member(&self, member: Member) -> Option<&MemberNet> {
-        self.members().iter().find(|entry| entry.member == member)
+        self.members.iter().find(|entry| entry.member == member)
     }
 
     /// Every link, by its lower member and then by its higher one.
     pub fn links(&self) -> &[LinkFlow] {
-        &self.links[..self.count.saturating_sub(1)]
+        &self.links
     }
 
     /// What the link between two members carries, in whichever order they are given; none where no
     /// link joins them directly.
     pub fn link(&self, x: Member, y: Member) -> Option<&LinkFlow> {
         let ends = (x.min(y), x.max(y));
-        self.links().iter().find(|link| (link.a, link.b) == ends)
+        self.links.iter().find(|link| (link.a, link.b) == ends)
     }
 
     /// The sum of the members' values.
@@ -187,23 +170,7 @@ impl Answer {
     }
 }
 
-impl fmt::Debug for Answer {
-    fn fmt(&self, f: &mut fmt::Formatter) -> fmt::Result {
-        f.debug_struct("Answer")
-            .field("members", &self.members())
-            .field("links", &self.links())
-            .field("total", &self.total)
-            .finish()
-    }
-}
-
 impl MemberNet {
-    const NONE: MemberNet = MemberNet {
-        member: Member(0),
-        net: Units(0),
-        value: Price(0),
-    };
-
     fn read(record: &[u8; 8]) -> MemberNet {
         let [_, member, n0, n1, ..] = *record;
         MemberNet {
@@ -215,14 +182,6 @@ impl MemberNet {
 }
 
 impl LinkFlow {
-    const NONE: LinkFlow = LinkFlow {
-        a: Member(0),
-        b: Member(0),
-        flow: Units(0),
-        capacity: Units(0),
-        load: 0,
-    };
-
     /// All but the capacity, which the record does not have.
     fn read(record: &[u8; 8]) -> LinkFlow {
         let [_, a, b, _, f0, f1, l0, l1] = *record;
@@ -230,8 +189,8 @@ impl LinkFlow {
             a: Member(a),
             b: Member(b),
             flow: Units(i16::from_le_bytes([f0, f1])),
+            capacity: Units(0),
             load: u16::from_le_bytes([l0, l1]),
-            ..LinkFlow::NONE
         }
     }
 }

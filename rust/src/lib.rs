@@ -29,14 +29,15 @@
 //! archive in the variable `CLEARING_ARCHIVE`. The archive is for x86-64 Linux. One binary can hold
 //! one version of this package: the archives of two would be taken for each other.
 //!
-//! The package needs no standard library. Without its feature `alloc` (on by default) it has no
-//! [`Market`] and allocates nothing.
+//! The package needs no standard library. Without its feature `alloc` (on by default) it allocates
+//! nothing, and has [`clear`], [`records`] and the types of their results.
 
 #![no_std]
 
 #[cfg(feature = "alloc")]
 extern crate alloc;
 
+#[cfg(feature = "alloc")]
 mod answer;
 #[cfg(feature = "alloc")]
 mod market;
@@ -44,19 +45,20 @@ mod numbers;
 mod raw;
 mod record;
 mod refusal;
+#[cfg(feature = "alloc")]
 mod stored;
 #[cfg(feature = "alloc")]
 mod text;
 
 #[cfg(feature = "alloc")]
-pub use answer::clear_market;
-pub use answer::{clear_file, Answer, LinkFlow, MemberNet, CLOSED, FULL};
+pub use answer::{clear_file, clear_market, Answer, LinkFlow, MemberNet, CLOSED, FULL};
 #[cfg(feature = "alloc")]
 pub use market::Market;
 pub use numbers::{Member, Price, Units};
 pub use raw::{clear, ANSWER_LIMIT, FILE_LIMIT, STACK};
 pub use record::{records, Link, Offer, Record};
 pub use refusal::Refusal;
+#[cfg(feature = "alloc")]
 pub use stored::NoAnswer;
 #[cfg(feature = "alloc")]
 pub use text::{Fault, Field, Unreadable};

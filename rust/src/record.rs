@@ -63,6 +63,7 @@ pub fn records(file: &[u8]) -> impl Iterator<Item = Record<'_>> {
 }
 
 /// The links among a file's records, in order.
+#[cfg(feature = "alloc")]
 pub(crate) fn links(file: &[u8]) -> impl Iterator<Item = Link> + '_ {
     records(file).filter_map(|record| match record {
         Record::Link(link) => Some(link),

@@ -1,11 +1,13 @@
 //! Whether stored bytes are an answer to a market: `docs/RULES.md`, "Records out". The bytes are
 //! read as records; what they say is not compared with the market's offers.
 
-use crate::answer::MEMBERS;
 use crate::record::links;
 use crate::{records, Link, Member, Offer, Record};
 use core::error::Error;
 use core::fmt;
+
+/// The most members that a market has.
+const MEMBERS: usize = 32;
 
 /// Why bytes are not an answer to a market. Records count from 0.
 #[derive(Clone, Copy, Debug, PartialEq, Eq, Hash)]

@@ -1,8 +1,6 @@
-//! The files of `examples/`: they are what `write_markets` writes, and the list there names each.
+//! The files of `examples/`: each is made from its text, and the text says what it shows.
 
-#[path = "../examples/markets/mod.rs"]
-mod markets;
-
+use clearing::Market;
 use std::collections::BTreeSet;
 use std::fs;
 use std::path::{Path, PathBuf};
@@ -13,35 +11,31 @@ fn folder() -> PathBuf {
 
 /// The bytes of an example file.
 pub fn committed(name: &str) -> Vec<u8> {
-    let path = folder().join(name).with_extension("market");
+    read(name, "market")
+}
+
+fn read(name: &str, extension: &str) -> Vec<u8> {
+    let path = folder().join(name).with_extension(extension);
     fs::read(&path).unwrap_or_else(|error| panic!("{}: {error}", path.display()))
 }
 
-#[test]
-fn the_example_files_are_what_write_markets_writes() {
-    for (name, market) in markets::markets() {
-        assert!(committed(name) == market.file(), "examples/{name}.market");
-    }
-}
-
-#[test]
-fn every_example_file_is_written_and_named_in_the_list() {
-    let written: BTreeSet<String> = markets::markets()
-        .iter()
-        .map(|(name, _)| format!("{name}.market"))
-        .collect();
-    let there: BTreeSet<String> = fs::read_dir(folder())
+/// The names of the example files with an extension.
+fn names(extension: &str) -> BTreeSet<String> {
+    fs::read_dir(folder())
         .expect("the folder is there")
         .map(|entry| entry.expect("an entry").file_name())
         .map(|name| name.into_string().expect("plain text"))
-        .filter(|name| name != "README.md")
-        .collect();
-    assert_eq!(there, written);
-    let list = fs::read_to_string(folder().join("README.md")).expect("the list is there");
-    for name in written {
-        let named = list
-            .lines()
-            .any(|line| line.starts_with(&format!("| `{name}` | ")));
-        assert!(named, "examples/README.md has no line for {name}");
+        .filter_map(|name| Some(name.strip_suffix(extension)?.to_string()))
+        .collect()
+}
+
+#[test]
+fn every_example_is_made_from_its_text() {
+    assert_eq!(names(".market"), names(".txt"));
+    for name in names(".txt") {
+        let text = read(&name, "txt");
+        assert!(text.starts_with(b"# "), "examples/{name}.txt says nothing");
+        let market = Market::from_text(&text).unwrap_or_else(|fault| panic!("{name}: {fault}"));
+        assert!(market.file() == committed(&name), "examples/{name}.market");
     }
 }
