@@ -94,19 +94,19 @@ fn up_to_date(archive: &Path, sources: &[PathBuf]) -> Result<(), String> {
     Ok(())
 }
 
-/// The first path that was changed after `built`: this one, or one in it. A folder is changed where
-/// a file of it is added or removed.
+/// The first file that was changed after `built`: this one, or one in this folder.
 fn newer_than(built: SystemTime, path: &Path) -> io::Result<Option<PathBuf>> {
     let own = fs::symlink_metadata(path)?;
-    if own.is_dir() {
-        for entry in fs::read_dir(path)? {
-            let newer = newer_than(built, &entry?.path())?;
-            if newer.is_some() {
-                return Ok(newer);
-            }
+    if !own.is_dir() {
+        return Ok((own.modified()? > built).then(|| path.to_path_buf()));
+    }
+    for entry in fs::read_dir(path)? {
+        let newer = newer_than(built, &entry?.path())?;
+        if newer.is_some() {
+            return Ok(newer);
         }
     }
-    Ok((own.modified()? > built).then(|| path.to_path_buf()))
+    Ok(None)
 }
 
 fn unread(path: &Path, error: io::Error) -> String {

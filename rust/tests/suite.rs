@@ -9,6 +9,7 @@ mod feeder;
 mod files;
 mod large;
 mod listed;
+mod package;
 mod program;
 mod refusals;
 mod small;
