@@ -11,8 +11,8 @@ fail() {
     exit 2
 }
 
-# Sees to streams that are closed, so that no file opened later is taken for one: without standard output there is no
-# answer, messages nobody hears are dropped, and a read of standard input fails, as one of a folder does.
+# Sees to closed streams, so that no file opened later is taken for one of them: a closed standard output is a failure,
+# messages to a closed standard error are dropped, and a closed standard input becomes a folder, which cannot be read.
 keep_streams() {
     (: 3>&2) || exec 2>/dev/null
     (: 3>&1) 2>/dev/null || fail 'standard output is closed'
@@ -42,24 +42,24 @@ reason() { # FILE NAME
     [ -z "$newer" ] || echo "${newer#"$root"/} is newer than $2"
 }
 
-# Builds FILE, called NAME, by `rt VERB CRATE`, under the lock.
+# Builds FILE, called NAME, by `rt VERB CRATE`, in the checkout and under its lock.
 build() { # FILE NAME VERB CRATE
-    # A crate with a stamp is not built again, whether what was built is there or not.
+    # rt builds no crate again that has its stamp, not even where what it built is gone.
     [ -f "$1" ] || rm -f "target/stamp/$4"
     touch target/lock
     rt "$3" "$4" || {
-        # What failed rt's trial run would else be found next time, and be new.
+        # A program that failed in rt's trial run would be the newest the next time.
         rm -f "$1"
         fail "$2 could not be built"
     }
     [ -f "$1" ] || fail "$2 could not be built: rt $3 $4 ended well, and made none"
-    # As old as the build's start: what was edited meanwhile is newer, and what was only touched before is not.
+    # It has the time of the build's start: a source edited since is newer, one only touched before is not.
     touch -r target/lock "$1"
     say 'built'
 }
 
-# Has FILE, called NAME, up to date. One build at a time; who waited for another's looks again.
-bring() { # FILE NAME VERB CRATE
+# Builds FILE, called NAME, where that is needed. One build at a time: whoever waited for another looks again.
+up_to_date() { # FILE NAME VERB CRATE
     if [ ! -f "$root/crates.txt" ] || [ ! -d "$root/crates" ]; then
         fail "$root has no crates.txt and crates/: $2 is built in a checkout"
     fi
@@ -81,16 +81,17 @@ bring() { # FILE NAME VERB CRATE
     ) </dev/null >&2 || exit 2
 }
 
-# Becomes the Rust program named by `tool`, built first. CLEARING_ARCHIVE is another archive than this checkout's.
-become_rust() { # ARGUMENTS
-    [ -n "${CLEARING_ARCHIVE-}" ] || bring "$root/target/staticlib/libentry.a" 'the archive' staticlib entry
+# Becomes the Rust program named by `tool`, which cargo builds. It is linked with this checkout's archive, unless
+# CLEARING_ARCHIVE names the folder of another.
+run_rust_tool() { # ARGUMENTS
+    [ -n "${CLEARING_ARCHIVE-}" ] || up_to_date "$root/target/staticlib/libentry.a" 'the archive' staticlib entry
     cargo=${CARGO:-cargo}
-    command -v "$cargo" >/dev/null || fail "$cargo, which builds $tool, was not found"
+    command -v "$cargo" >/dev/null || fail "$cargo, which builds the program, was not found"
     manifest=$root/rust/Cargo.toml
     words="--quiet --release --offline --package clearing-tools --bin $tool"
     export CARGO_TARGET_DIR="${CARGO_TARGET_DIR:-$root/target/cargo}"
     # shellcheck disable=SC2086
-    "$cargo" build $words --manifest-path "$manifest" </dev/null >&2 || fail "$tool could not be built"
+    "$cargo" build $words --manifest-path "$manifest" </dev/null >&2 || fail 'the program could not be built'
     # shellcheck disable=SC2086
     exec "$cargo" run $words --manifest-path "$manifest" -- "$@"
 }

@@ -325,7 +325,7 @@ fn a_rust_tool_that_cannot_be_built_is_not_run() {
     assert!(said(&missing).starts_with("market: cargo, which builds"));
     layout.executable("tools/cargo", "echo \"$1\"; exit 101");
     let failing = output(&mut layout.command("market"));
-    assert!(said(&failing).ends_with("market: market could not be built\n"));
+    assert!(said(&failing).ends_with("market: the program could not be built\n"));
     layout.kit("exit 1");
     layout.remove(ARCHIVE);
     let unproved = output(&mut layout.command("market"));
