@@ -1,14 +1,24 @@
-//! The program and the script over it: what they print for a market on standard input or in a file.
+//! The program and the script over it: what they print for a market on standard input or in a file,
+//! and how they end. `layout` has the scripts over programs of its own.
+
+pub mod folder;
+mod layout;
 
 use crate::common::cases;
 use crate::examples::committed;
 use crate::files::random_file;
 use crate::small::random_sheet;
 use clearing::{clear, ANSWER_LIMIT};
+use folder::Folder;
 use std::env;
+use std::fs::File;
 use std::io::{ErrorKind, Write};
+use std::os::fd::OwnedFd;
+use std::os::unix::fs::symlink;
+use std::os::unix::net::{UnixDatagram, UnixStream};
 use std::path::{Path, PathBuf};
 use std::process::{Command, Output, Stdio};
+use std::time::Duration;
 
 const A: &str = "P 1 -2 -100\nP 2 0 0\nP 3 2 180\nL 1 2 2 1000\nL 2 3 2 666\nT 80\n";
 
@@ -48,6 +58,24 @@ fn run(command: &mut Command, input: &[u8]) -> (Output, bool) {
 
 fn printed(output: &Output) -> &str {
     str::from_utf8(&output.stdout).expect("plain text")
+}
+
+fn said(output: &Output) -> &str {
+    str::from_utf8(&output.stderr).expect("plain text")
+}
+
+fn assert_answer(output: &Output, status: i32, lines: &str) {
+    assert_eq!(printed(output), lines, "{}", said(output));
+    assert_eq!(output.status.code(), Some(status), "{}", said(output));
+}
+
+/// Status 2, no line of an answer, and a message with these words.
+fn assert_no_answer(output: &Output, words: &str) {
+    let messages = said(output);
+    assert_eq!(printed(output), "", "{messages}");
+    assert_eq!(output.status.code(), Some(2), "{messages}");
+    let mut ours = messages.lines().filter(|line| line.starts_with("clear: "));
+    assert!(ours.any(|line| line.contains(words)), "{messages}");
 }
 
 /// The lines of `docs/RULES.md`, "The program's lines", from the library's answer.
@@ -107,32 +135,180 @@ fn the_program_does_not_read_endlessly() {
 /// The script, called from a folder that is not the repository's. It would build the program, so the
 /// program must be there.
 fn script() -> Command {
-    let built = root().join("target/bin/clear");
-    assert!(built.is_file(), "{} is missing: {BUILD}", built.display());
-    let mut command = Command::new(root().join("bin/clear"));
+    let mut command = Command::new(script_path());
     command.current_dir(env::temp_dir());
     command
 }
 
+fn script_path() -> PathBuf {
+    let built = root().join("target/bin/clear");
+    assert!(built.is_file(), "{} is missing: {BUILD}", built.display());
+    root().join("bin/clear")
+}
+
+/// The script with a word of the shell's on its streams, as `<&-`, which closes standard input.
+fn script_with(stream: &str) -> Command {
+    let mut command = Command::new("sh");
+    let line = format!("exec \"$0\" \"$@\" {stream}");
+    command.args(["-c", &line]).arg(script_path());
+    command
+}
+
+fn example(name: &str) -> PathBuf {
+    root().join("examples").join(name).with_extension("market")
+}
+
+fn output(command: &mut Command) -> Output {
+    command.output().expect("the script starts")
+}
+
 #[test]
 fn the_script_clears_a_file_and_standard_input() {
-    let path = root().join("examples/A.market");
-    let (output, _) = run(script().arg(path), b"");
-    assert_eq!(printed(&output), A);
-    let (output, _) = run(&mut script(), &committed("A"));
-    assert_eq!(printed(&output), A);
+    assert_answer(&output(script().arg(example("A"))), 0, A);
+    for words in [&[][..], &["-"], &["--"], &["--", "-"]] {
+        let (output, _) = run(script().args(words), &committed("A"));
+        assert_answer(&output, 0, A);
+    }
+}
+
+#[test]
+fn the_scripts_status_tells_a_refusal() {
+    for name in ["A", "seven_bytes", "ring", "star"] {
+        let lines = lines(&committed(name));
+        let status = lines.starts_with('R').into();
+        assert_answer(&output(script().arg(example(name))), status, &lines);
+    }
+    let refused = [&[9; 8][..], &[1; 16_640]];
+    for file in refused {
+        let (output, _) = run(&mut script(), file);
+        assert_answer(&output, 1, &lines(file));
+    }
 }
 
 #[test]
 fn the_script_names_a_file_that_cannot_be_opened() {
-    for name in ["no such.market", "."] {
-        let (output, _) = run(script().arg(name), b"");
-        let message = str::from_utf8(&output.stderr).expect("plain text");
-        assert!(!output.status.success(), "{name}");
-        assert!(
-            message.contains(&format!("cannot open {name}:")),
-            "{message}"
-        );
-        assert_eq!(printed(&output), "", "{name}");
+    for name in ["no such.market", ".", ""] {
+        let output = output(script().arg(name));
+        assert_no_answer(&output, &format!("cannot open {name}: "));
     }
+}
+
+#[test]
+fn the_script_helps() {
+    for word in ["--help", "-h"] {
+        let output = output(script().arg(word));
+        assert_eq!(output.status.code(), Some(0));
+        assert!(printed(&output).contains("exit status:"), "{word}");
+        assert_eq!(said(&output), "", "{word}");
+    }
+    let full = File::options().write(true).open("/dev/full").expect("full");
+    let output = output(script().arg("--help").stdout(full));
+    assert_eq!(output.status.code(), Some(2));
+}
+
+#[test]
+fn the_script_refuses_other_words() {
+    for word in ["-x", "--halp", "--help=no", "-0"] {
+        assert_no_answer(&output(script().arg(word)), word);
+        assert_no_answer(&output(script().arg(word).arg(example("A"))), word);
+    }
+    let two = [example("A"), example("A")];
+    assert_no_answer(&output(script().args(&two)), "one file");
+    assert_no_answer(&output(script().arg("--").args(&two)), "one file");
+}
+
+#[test]
+fn a_files_name_may_begin_with_a_dash() {
+    let folder = Folder::new("dashes");
+    for name in ["-x", "--help", "--"] {
+        folder.write(name, committed("A"));
+        let mut script = script();
+        script.current_dir(folder.path("")).args(["--", name]);
+        assert_answer(&output(&mut script), 0, A);
+    }
+}
+
+#[test]
+fn a_market_that_cannot_be_read_has_no_answer() {
+    let folder = File::open(root()).expect("the folder is there");
+    assert_no_answer(&output(script().stdin(folder)), "read");
+    assert_no_answer(&output(&mut script_with("<&-")), "standard input");
+}
+
+#[test]
+fn a_closed_standard_input_does_not_matter_to_a_file() {
+    assert_answer(&output(script_with("<&-").arg(example("A"))), 0, A);
+    assert_answer(&output(script_with("<&- 2>&-").arg(example("A"))), 0, A);
+}
+
+#[test]
+fn a_market_that_is_not_there_whole_has_no_answer() {
+    let (mut ours, theirs) = UnixStream::pair().expect("two sockets");
+    theirs.set_nonblocking(true).expect("it does not wait");
+    let market = committed("F");
+    assert_eq!(market.len(), 24);
+    ours.write_all(&market[..8]).expect("a part of it");
+    let output = output(script().stdin(OwnedFd::from(theirs)));
+    assert_no_answer(&output, "read");
+    drop(ours);
+}
+
+#[test]
+fn an_answer_that_cannot_be_written_is_none() {
+    let full = File::options().write(true).open("/dev/full").expect("full");
+    let output_to_full = output(script().arg(example("A")).stdout(full));
+    assert_no_answer(&output_to_full, "write");
+    let closed = output(script_with(">&-").arg(example("A")));
+    assert_no_answer(&closed, "standard output");
+}
+
+/// What the script writes for a file, each write by itself.
+fn writes(file: &Path) -> Vec<Vec<u8>> {
+    let (ours, theirs) = UnixDatagram::pair().expect("two sockets");
+    let wait = Some(Duration::from_millis(50));
+    ours.set_read_timeout(wait).expect("a time to wait");
+    let mut command = script();
+    command.arg(file).stdout(OwnedFd::from(theirs));
+    let mut child = command.spawn().expect("the script starts");
+    let mut writes = Vec::new();
+    loop {
+        let ended = child.try_wait().expect("a child").is_some();
+        let mut area = [0; 4096];
+        match ours.recv(&mut area) {
+            Ok(n) => writes.push(area[..n].to_vec()),
+            Err(_) if ended => return writes,
+            Err(_) => {}
+        }
+    }
+}
+
+#[test]
+fn an_answer_is_one_write() {
+    for name in ["A", "seven_bytes", "star"] {
+        let lines = lines(&committed(name)).into_bytes();
+        let writes = writes(&example(name));
+        assert!(writes == [lines], "{name}: {} writes", writes.len());
+    }
+}
+
+#[test]
+fn the_script_works_through_links() {
+    let folder = Folder::new("links");
+    let script = script_path().canonicalize().expect("the script is there");
+    let first = folder.path("first");
+    symlink(script, &first).expect("a link");
+    folder.write("other/market", committed("A"));
+    symlink("../first", folder.path("other/second")).expect("a link");
+    symlink("second", folder.path("other/third")).expect("a link");
+    for link in ["first", "other/second", "other/third"] {
+        let mut command = Command::new(folder.path(link));
+        let inside = command.current_dir(folder.path("other"));
+        assert_answer(&output(inside.arg("market")), 0, A);
+    }
+    let mut relative = Command::new("sh");
+    let inside = relative.current_dir(folder.path("other"));
+    assert_answer(&output(inside.args(["second", "market"])), 0, A);
+    let mut named = Command::new("sh");
+    named.args(["-c", "PATH=$1:$PATH; third \"$1/market\"", "sh"]);
+    assert_answer(&output(named.arg(folder.path("other"))), 0, A);
 }

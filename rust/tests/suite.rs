@@ -8,6 +8,7 @@ mod examples;
 mod files;
 mod large;
 mod listed;
+mod package;
 mod painted;
 mod program;
 mod refusals;
