@@ -24,7 +24,7 @@ const A: &str = "P 1 -2 -100\nP 2 0 0\nP 3 2 180\nL 1 2 2 1000\nL 2 3 2 666\nT 8
 
 const BUILD: &str = "run `rt check clear` in the repository's root first";
 
-fn root() -> PathBuf {
+pub fn root() -> PathBuf {
     Path::new(env!("CARGO_MANIFEST_DIR")).join("..")
 }
 
@@ -40,7 +40,7 @@ fn program() -> PathBuf {
 
 /// Runs a command on the given standard input. Gives what came of it, and whether all of the input
 /// was taken.
-fn run(command: &mut Command, input: &[u8]) -> (Output, bool) {
+pub fn run(command: &mut Command, input: &[u8]) -> (Output, bool) {
     let piped = command
         .stdin(Stdio::piped())
         .stdout(Stdio::piped())
@@ -56,11 +56,11 @@ fn run(command: &mut Command, input: &[u8]) -> (Output, bool) {
     (output, written.is_ok())
 }
 
-fn printed(output: &Output) -> &str {
+pub fn printed(output: &Output) -> &str {
     str::from_utf8(&output.stdout).expect("plain text")
 }
 
-fn said(output: &Output) -> &str {
+pub fn said(output: &Output) -> &str {
     str::from_utf8(&output.stderr).expect("plain text")
 }
 
@@ -158,7 +158,7 @@ fn example(name: &str) -> PathBuf {
     root().join("examples").join(name).with_extension("market")
 }
 
-fn output(command: &mut Command) -> Output {
+pub fn output(command: &mut Command) -> Output {
     command.output().expect("the script starts")
 }
 

@@ -15,4 +15,5 @@ mod refusals;
 mod small;
 mod stack;
 mod text;
+mod tools;
 mod typed;
