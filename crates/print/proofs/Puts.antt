@@ -42,6 +42,15 @@ fits-of-both at s t n h = omega arith
 end-of-both : (at s t n : ℕ) → at + s < n → min (at + s + t) n ≡ min (at + (s + t)) n
 end-of-both at s t n h = omega arith
 
+-- past a copy the page is as it was
+past-paste : (page s : List ℕ) (at n k : ℕ) → at ≤ length page → n ≤ length s → drop (at + n + k) (paste page at s n) ≡ drop (at + (n + k)) page
+past-paste page s at n k inside all =
+    let place : at + n + k ≡ at + (n + k) = omega arith in
+    sym (drop-drop k (at + n) (paste page at s n))
+    ∙ ap (λ (l : List ℕ). drop k l) (drop-paste page at s n inside all)
+    ∙ drop-drop k (at + n) page
+    ∙ ap (λ (j : ℕ). drop j page) place
+
 -- a copy after another copy is a copy of both in one
 paste-paste : (page s t : List ℕ) (at k : ℕ) → at + length s ≤ length page → paste (paste page at s (length s)) (at + length s) t k ≡ paste page at (s ++ t) (length s + k)
 paste-paste page s t at k h =
@@ -49,14 +58,11 @@ paste-paste page s t at k h =
     let one : List ℕ = paste page at s n in
     let all : n ≤ length s = omega arith in
     let inside : at ≤ length page = omega arith in
-    let place : at + n + k ≡ at + (n + k) = omega arith in
     let middle : take n s ++ take k t ≡ take (n + k) (s ++ t) = ap (λ (l : List ℕ). l ++ take k t) (take-length s) ∙ sym (take-append-add s t k) in
-    let after : drop (at + n + k) one ≡ drop (at + (n + k)) page =
-    sym (drop-drop k (at + n) one) ∙ ap (λ (l : List ℕ). drop k l) (drop-paste page at s n inside all) ∙ drop-drop k (at + n) page ∙ ap (λ (j : ℕ). drop j page) place in
     ap (λ (l : List ℕ). l ++ take k t ++ drop (at + n + k) one) (take-paste page at s n inside all)
     ∙ ap (λ (l : List ℕ). l ++ drop (at + n + k) one) (append-assoc (take at page) (take n s) (take k t))
     ∙ ap (λ (l : List ℕ). take at page ++ l ++ drop (at + n + k) one) middle
-    ∙ ap (λ (l : List ℕ). take at page ++ take (n + k) (s ++ t) ++ l) after
+    ∙ ap (λ (l : List ℕ). take at page ++ take (n + k) (s ++ t) ++ l) (past-paste page s at n k inside all)
 
 -- a text and then another are put as both in one
 module _ {page s t made both : List ℕ} {at place end : ℕ} (p : Put page at s made place) (q : Put made place t both end) where

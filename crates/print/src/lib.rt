@@ -1,7 +1,6 @@
-// Text and numbers on a page that the caller lends, each number in decimal, with a minus sign where it is below 0. Each
-// function puts its text on the page from a place on, as far as the page goes, and gives the place after it. One rule: a page
-// whose place reaches its end is full, and what did not fit is lost; so whoever makes a page holds the last place against the
-// page's length, once.
+// Text and numbers on a page that the caller lends. Each function puts its text on the page from a place on, as far as the
+// page goes, and gives the place after it. One rule: a page whose place reaches its end is full, and what did not fit is
+// lost; so whoever makes a page holds the last place against the page's length, once.
 ghost use mathlib.Core.Path.{_≡_};
 ghost use Prim.Native.Nat.{min};
 ghost use lib.IntN.{pos, natAbs};
@@ -28,6 +27,7 @@ pub fn text(page: &mut [u8], at: usize, s: &[u8]) -> usize
     at + n
 }
 
+// A number in decimal, with a minus sign where it is below 0 and no zero before its first digit.
 pub fn number(page: &mut [u8], at: usize, n: i64) -> usize
     ensures { λ r. ⌜ Counts r (now (page .exit)) ⌝ }
     ensures { λ r. ⌜ PutNumber (now (page .entry)) at n (now (page .exit)) r ⌝ }
@@ -72,6 +72,7 @@ fn size(n: i64) -> u64
     n as u64
 }
 
+// The lesser of two numbers.
 fn least(a: usize, b: usize) -> usize
     ensures { λ r. ⌜ r ≡ min a b ⌝ }
 {

@@ -21,26 +21,26 @@ fn byte(record: &[u8], i: usize) -> u8 {
 
 // A blank and the member that a byte numbers.
 fn member(page: &mut [u8], at: usize, number: u8) -> usize {
-    let place = print::text(page, at, b" ");
-    print::number(page, place, number as i64)
+    let at = print::text(page, at, b" ");
+    print::number(page, at, number as i64)
 }
 
 // The members that a link joins.
 fn ends(page: &mut [u8], at: usize, record: &[u8]) -> usize {
-    let place = member(page, at, byte(record, 1));
-    member(page, place, byte(record, 2))
+    let at = member(page, at, byte(record, 1));
+    member(page, at, byte(record, 2))
 }
 
 // A blank and the units that 16 bits stand for.
 fn units(page: &mut [u8], at: usize, bits: u16) -> usize {
-    let place = print::text(page, at, b" ");
-    print::units(page, place, Units::from_bits(bits))
+    let at = print::text(page, at, b" ");
+    print::units(page, at, Units::from_bits(bits))
 }
 
 // A blank and the load.
 fn load(page: &mut [u8], at: usize, thousandths: u16) -> usize {
-    let place = print::text(page, at, b" ");
-    print::number(page, place, thousandths as i64)
+    let at = print::text(page, at, b" ");
+    print::number(page, at, thousandths as i64)
 }
 
 // A blank and the price in a record's last 4 bytes.
@@ -51,39 +51,39 @@ fn price(page: &mut [u8], at: usize, record: &[u8]) -> usize {
         byte(record, 6),
         byte(record, 7),
     );
-    let place = print::text(page, at, b" ");
-    print::price(page, place, Price::from_bits(bits))
+    let at = print::text(page, at, b" ");
+    print::price(page, at, Price::from_bits(bits))
 }
 
 // P: member, net, value.
 fn member_line(page: &mut [u8], at: usize, record: &[u8]) -> usize
     ensures { λ r. ⌜ Counts r (now (page .exit)) ⌝ }
 {
-    let mut place = print::text(page, at, b"P");
-    place = member(page, place, byte(record, 1));
-    place = units(page, place, two(byte(record, 2), byte(record, 3)));
-    place = price(page, place, record);
-    print::text(page, place, b"\n")
+    let at = print::text(page, at, b"P");
+    let at = member(page, at, byte(record, 1));
+    let at = units(page, at, two(byte(record, 2), byte(record, 3)));
+    let at = price(page, at, record);
+    print::text(page, at, b"\n")
 }
 
 // L: the link's members, flow, load.
 fn link_line(page: &mut [u8], at: usize, record: &[u8]) -> usize
     ensures { λ r. ⌜ Counts r (now (page .exit)) ⌝ }
 {
-    let mut place = print::text(page, at, b"L");
-    place = ends(page, place, record);
-    place = units(page, place, two(byte(record, 4), byte(record, 5)));
-    place = load(page, place, two(byte(record, 6), byte(record, 7)));
-    print::text(page, place, b"\n")
+    let at = print::text(page, at, b"L");
+    let at = ends(page, at, record);
+    let at = units(page, at, two(byte(record, 4), byte(record, 5)));
+    let at = load(page, at, two(byte(record, 6), byte(record, 7)));
+    print::text(page, at, b"\n")
 }
 
 // T: total.
 fn total_line(page: &mut [u8], at: usize, record: &[u8]) -> usize
     ensures { λ r. ⌜ Counts r (now (page .exit)) ⌝ }
 {
-    let mut place = print::text(page, at, b"T");
-    place = price(page, place, record);
-    print::text(page, place, b"\n")
+    let at = print::text(page, at, b"T");
+    let at = price(page, at, record);
+    print::text(page, at, b"\n")
 }
 
 // The line of a record, by its kind.
@@ -115,10 +115,10 @@ fn refusal_line(page: &mut [u8], code: u64) -> usize
 {
     let number = code / 65536;
     let place = code % 65536;
-    let mut at = print::text(page, 0, b"R ");
-    at = print::number(page, at, number as i64);
-    at = print::text(page, at, b" ");
-    at = print::number(page, at, place as i64);
+    let at = print::text(page, 0, b"R ");
+    let at = print::number(page, at, number as i64);
+    let at = print::text(page, at, b" ");
+    let at = print::number(page, at, place as i64);
     print::text(page, at, b"\n")
 }
 

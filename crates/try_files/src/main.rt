@@ -6,11 +6,11 @@ use numbers::Member;
 use numbers::Units;
 use records::Verdict;
 
-fn refused(page: &mut [u8], at: usize, number: u8, refused: u16) -> usize {
-    let mut place = print::text(page, at, b" R ");
-    place = print::number(page, place, number as i64);
-    place = print::text(page, place, b" ");
-    print::number(page, place, refused as i64)
+fn refused(page: &mut [u8], at: usize, number: u8, place: u16) -> usize {
+    let at = print::text(page, at, b" R ");
+    let at = print::number(page, at, number as i64);
+    let at = print::text(page, at, b" ");
+    print::number(page, at, place as i64)
 }
 
 fn member_at(row: [Member; 32], i: usize) -> Member {
@@ -27,12 +27,12 @@ fn units_at(row: [Units; 32], i: usize) -> Units {
 
 // A member, the member that it was reached from, and the capacity of their link.
 fn reached(page: &mut [u8], at: usize, member: Member, from: Member, capacity: Units) -> usize {
-    let mut place = print::text(page, at, b" ");
-    place = print::member(page, place, member);
-    place = print::text(page, place, b"<");
-    place = print::member(page, place, from);
-    place = print::text(page, place, b":");
-    print::units(page, place, capacity)
+    let at = print::text(page, at, b" ");
+    let at = print::member(page, at, member);
+    let at = print::text(page, at, b"<");
+    let at = print::member(page, at, from);
+    let at = print::text(page, at, b":");
+    print::units(page, at, capacity)
 }
 
 fn walk(page: &mut [u8], at: usize, f: Feeder) -> usize {
@@ -65,8 +65,8 @@ fn verdict(page: &mut [u8], at: usize, c: Checked) -> usize {
 }
 
 fn line(page: &mut [u8], at: usize, c: Checked) -> usize {
-    let place = verdict(page, at, c);
-    print::text(page, place, b"\n")
+    let at = verdict(page, at, c);
+    print::text(page, at, b"\n")
 }
 
 fn read(page: &mut [u8], at: usize, fd: i32) -> usize {

@@ -7,26 +7,26 @@ use numbers::Units;
 use records::Reading;
 
 fn link(page: &mut [u8], at: usize, a: Member, b: Member, capacity: Units) -> usize {
-    let mut place = print::text(page, at, b"link ");
-    place = print::member(page, place, a);
-    place = print::text(page, place, b" ");
-    place = print::member(page, place, b);
-    place = print::text(page, place, b" ");
-    print::units(page, place, capacity)
+    let at = print::text(page, at, b"link ");
+    let at = print::member(page, at, a);
+    let at = print::text(page, at, b" ");
+    let at = print::member(page, at, b);
+    let at = print::text(page, at, b" ");
+    print::units(page, at, capacity)
 }
 
 fn offer(page: &mut [u8], at: usize, member: Member, amount: Units, price: Price) -> usize {
-    let mut place = print::text(page, at, b"offer ");
-    place = print::member(page, place, member);
-    place = print::text(page, place, b" ");
-    place = print::units(page, place, amount);
-    place = print::text(page, place, b" ");
-    print::price(page, place, price)
+    let at = print::text(page, at, b"offer ");
+    let at = print::member(page, at, member);
+    let at = print::text(page, at, b" ");
+    let at = print::units(page, at, amount);
+    let at = print::text(page, at, b" ");
+    print::price(page, at, price)
 }
 
 fn fault(page: &mut [u8], at: usize, number: u8) -> usize {
-    let place = print::text(page, at, b"fault ");
-    print::number(page, place, number as i64)
+    let at = print::text(page, at, b"fault ");
+    print::number(page, at, number as i64)
 }
 
 fn reading(page: &mut [u8], at: usize, r: Reading) -> usize {
@@ -38,8 +38,8 @@ fn reading(page: &mut [u8], at: usize, r: Reading) -> usize {
 }
 
 fn line(page: &mut [u8], at: usize, r: Reading) -> usize {
-    let place = reading(page, at, r);
-    print::text(page, place, b"\n")
+    let at = reading(page, at, r);
+    print::text(page, at, b"\n")
 }
 
 fn lines(page: &mut [u8], file: &[u8]) -> usize {

@@ -38,10 +38,12 @@ returns c =
     let second = c .before .before in
     let first = second .before .before .before .before .before in
     let below = first .before .before .before in
-    let start = below .before .before .before .before .before in (
-      second .text2 .ensures .0,
-      put-number (start .args .n) _ (below .before .decimal .result) (sign-below (start .args .n) (start .fits .n) (below .if1 .taken)) (below .before .before .before .size .ensures ∙ ap natAbs (toZ-ofZ (start .fits .n))) (below .before .decimal .ensures .1 .0) (below .before .decimal .ensures .1 .1) (put-then (first .text .ensures .1) (second .text2 .ensures .1)),
-    )
+    let made = below .before .decimal in
+    let start = below .before .before .before .before .before in
+    let size = below .before .before .before .size .ensures ∙ ap natAbs (toZ-ofZ (start .fits .n)) in
+    let sign = sign-below (start .args .n) (start .fits .n) (below .if1 .taken) in
+    let both = put-then (first .text .ensures .1) (second .text2 .ensures .1) in
+    (second .text2 .ensures .0, put-number (start .args .n) _ (made .result) sign size (made .ensures .1 .0) (made .ensures .1 .1) both)
 
 array-share-prefix-digits-2 : tie.Need-array-share-prefix-digits-2
 array-share-prefix-digits-2 c = search needs
@@ -59,10 +61,11 @@ returns-2 : tie.Need-returns-2
 returns-2 c =
     let only = c .before .before in
     let rest = only .before .before .before in
-    let start = rest .before .before .before .before .before in (
-      only .text3 .ensures .0,
-      put-number (start .args .n) _ (rest .before .decimal .result) (sign-none (start .args .n) (start .fits .n) (rest .if1 .left)) (rest .before .before .before .size .ensures ∙ ap natAbs (toZ-ofZ (start .fits .n))) (rest .before .decimal .ensures .1 .0) (rest .before .decimal .ensures .1 .1) (only .text3 .ensures .1),
-    )
+    let made = rest .before .decimal in
+    let start = rest .before .before .before .before .before in
+    let size = rest .before .before .before .size .ensures ∙ ap natAbs (toZ-ofZ (start .fits .n)) in
+    let sign = sign-none (start .args .n) (start .fits .n) (rest .if1 .left) in
+    (only .text3 .ensures .0, put-number (start .args .n) _ (made .result) sign size (made .ensures .1 .0) (made .ensures .1 .1) (only .text3 .ensures .1))
 
 pub number-spec : {M : Type 1} → statement M
 number-spec =
