@@ -1,8 +1,18 @@
-// Clears one market and prints the lines of its answer, or the line of its refusal.
+// What the programs over the clearing share: a market's file is read until its end is certain, its answer or its refusal
+// becomes lines on a page, and a page is written whole.
+ghost use lib.ListN.{length};
+ghost use Rattle.io.specs.Counts.{Counts};
+ghost use Rattle.libc.specs.Io.{Moved};
 use numbers::Price;
 use numbers::Units;
 use records::four;
 use records::two;
+
+// Where the lines of a market end on their page, and whether the market was refused.
+pub struct Shown {
+    pub end: usize,
+    pub refused: bool,
+}
 
 // A byte of a record; past its end, 0.
 fn byte(record: &[u8], i: usize) -> u8 {
@@ -10,105 +20,150 @@ fn byte(record: &[u8], i: usize) -> u8 {
 }
 
 // A blank and the member that a byte numbers.
-fn member(number: u8) {
-    print::text(b" ");
-    print::number(number as i64);
+fn member(page: &mut [u8], at: usize, number: u8) -> usize {
+    let at = print::text(page, at, b" ");
+    print::number(page, at, number as i64)
+}
+
+// The members that a link joins.
+fn ends(page: &mut [u8], at: usize, record: &[u8]) -> usize {
+    let at = member(page, at, byte(record, 1));
+    member(page, at, byte(record, 2))
 }
 
 // A blank and the units that 16 bits stand for.
-fn units(bits: u16) {
-    print::text(b" ");
-    print::units(Units::from_bits(bits));
+fn units(page: &mut [u8], at: usize, bits: u16) -> usize {
+    let at = print::text(page, at, b" ");
+    print::units(page, at, Units::from_bits(bits))
 }
 
 // A blank and the load.
-fn load(thousandths: u16) {
-    print::text(b" ");
-    print::number(thousandths as i64);
+fn load(page: &mut [u8], at: usize, thousandths: u16) -> usize {
+    let at = print::text(page, at, b" ");
+    print::number(page, at, thousandths as i64)
 }
 
 // A blank and the price in a record's last 4 bytes.
-fn price(record: &[u8]) {
+fn price(page: &mut [u8], at: usize, record: &[u8]) -> usize {
     let bits = four(
         byte(record, 4),
         byte(record, 5),
         byte(record, 6),
         byte(record, 7),
     );
-    print::text(b" ");
-    print::price(Price::from_bits(bits));
+    let at = print::text(page, at, b" ");
+    print::price(page, at, Price::from_bits(bits))
 }
 
 // P: member, net, value.
-fn member_line(record: &[u8]) {
-    print::text(b"P");
-    member(byte(record, 1));
-    units(two(byte(record, 2), byte(record, 3)));
-    price(record);
-    print::text(b"\n");
+fn member_line(page: &mut [u8], at: usize, record: &[u8]) -> usize
+    ensures { λ r. ⌜ Counts r (now (page .exit)) ⌝ }
+{
+    let at = print::text(page, at, b"P");
+    let at = member(page, at, byte(record, 1));
+    let at = units(page, at, two(byte(record, 2), byte(record, 3)));
+    let at = price(page, at, record);
+    print::text(page, at, b"\n")
 }
 
 // L: the link's members, flow, load.
-fn link_line(record: &[u8]) {
-    print::text(b"L");
-    member(byte(record, 1));
-    member(byte(record, 2));
-    units(two(byte(record, 4), byte(record, 5)));
-    load(two(byte(record, 6), byte(record, 7)));
-    print::text(b"\n");
+fn link_line(page: &mut [u8], at: usize, record: &[u8]) -> usize
+    ensures { λ r. ⌜ Counts r (now (page .exit)) ⌝ }
+{
+    let at = print::text(page, at, b"L");
+    let at = ends(page, at, record);
+    let at = units(page, at, two(byte(record, 4), byte(record, 5)));
+    let at = load(page, at, two(byte(record, 6), byte(record, 7)));
+    print::text(page, at, b"\n")
 }
 
 // T: total.
-fn total_line(record: &[u8]) {
-    print::text(b"T");
-    price(record);
-    print::text(b"\n");
+fn total_line(page: &mut [u8], at: usize, record: &[u8]) -> usize
+    ensures { λ r. ⌜ Counts r (now (page .exit)) ⌝ }
+{
+    let at = print::text(page, at, b"T");
+    let at = price(page, at, record);
+    print::text(page, at, b"\n")
 }
 
 // The line of a record, by its kind.
-fn line(record: &[u8]) {
+fn line(page: &mut [u8], at: usize, record: &[u8]) -> usize
+    ensures { λ r. ⌜ Counts r (now (page .exit)) ⌝ }
+{
     match byte(record, 0) {
-        3 => member_line(record),
-        4 => link_line(record),
-        _ => total_line(record),
+        3 => member_line(page, at, record),
+        4 => link_line(page, at, record),
+        _ => total_line(page, at, record),
     }
 }
 
 // A line for each record of the answer.
-fn lines(answer: &[u8]) {
+fn answer_lines(page: &mut [u8], answer: &[u8]) -> usize
+    ensures { λ r. ⌜ Counts r (now (page .exit)) ⌝ }
+{
     let n = answer.len() / 8;
+    let mut at = 0;
     for i in 0..n {
-        line(&answer[8 * i..]);
+        at = line(page, at, &answer[8 * i..]);
     }
+    at
 }
 
 // R: number, place.
-fn refused(code: u64) {
+fn refusal_line(page: &mut [u8], code: u64) -> usize
+    ensures { λ r. ⌜ Counts r (now (page .exit)) ⌝ }
+{
     let number = code / 65536;
     let place = code % 65536;
-    print::text(b"R ");
-    print::number(number as i64);
-    print::text(b" ");
-    print::number(place as i64);
-    print::text(b"\n");
+    let at = print::text(page, 0, b"R ");
+    let at = print::number(page, at, number as i64);
+    let at = print::text(page, at, b" ");
+    let at = print::number(page, at, place as i64);
+    print::text(page, at, b"\n")
 }
 
-// Clears the market of a file, and prints its lines.
-fn clear(file: &[u8]) {
+// Clears the market of a file, and makes its lines on the page.
+pub fn lines(file: &[u8], page: &mut [u8]) -> Shown
+    ensures { λ r. ⌜ Counts (r .end) (now (page .exit)) ⌝ }
+{
     let mut answer = [0u8; 512];
     let code = clearing::clear(file, &mut answer);
     if code < 65536 {
         let n = io::count(code as isize, &answer);
-        lines(&answer[..n]);
-    } else {
-        refused(code);
+        let end = answer_lines(page, &answer[..n]);
+        return Shown {
+            end,
+            refused: false,
+        };
     }
+    let end = refusal_line(page, code);
+    Shown { end, refused: true }
 }
 
-// Clears the market that a file descriptor holds, and prints its lines. A file of more than 16,632 bytes is read no
-// further than to 16,640, which shows that it is too long.
-pub fn run(fd: i32) {
-    let mut file = [0u8; 16640];
-    let n = io::read_full(fd, &mut file);
-    clear(&file[..n]);
+// Reads until the file is full or its end is certain, and gives the number of bytes read; -1 where a read failed, and errno
+// says why.
+pub fn read(fd: i32, file: &mut [u8]) -> isize
+    ensures { λ r. ⌜ Moved (length (now (file .entry))) r ⌝ }
+{
+    let mut n: usize = 0;
+    while n < file.len() {
+        let got = libc::read(fd, &mut file[n..]);
+        if got < 0 {
+            return -1;
+        }
+        if got == 0 {
+            return n as isize;
+        }
+        n += got as usize;
+    }
+    n as isize
+}
+
+// Writes a page up to the place that its text reached, in one write. False where not all of the text was written: the page is
+// full, or the write failed.
+pub fn write(fd: i32, page: &[u8], end: usize) -> bool {
+    if page.len() <= end {
+        return false;
+    }
+    io::write_all(fd, &page[..end])
 }

@@ -1,15 +1,16 @@
-// Prints of each file that an argument names the walk of its market, or its refusal under 1 to 10.
+// Writes of each file that an argument names the walk of its market, or its refusal under 1 to 10.
+use libc::STDOUT_FILENO;
 use market::Checked;
 use network::Feeder;
 use numbers::Member;
 use numbers::Units;
 use records::Verdict;
 
-fn refused(number: u8, place: u16) {
-    print::text(b" R ");
-    print::number(number as i64);
-    print::text(b" ");
-    print::number(place as i64);
+fn refused(page: &mut [u8], at: usize, number: u8, place: u16) -> usize {
+    let at = print::text(page, at, b" R ");
+    let at = print::number(page, at, number as i64);
+    let at = print::text(page, at, b" ");
+    print::number(page, at, place as i64)
 }
 
 fn member_at(row: [Member; 32], i: usize) -> Member {
@@ -25,63 +26,77 @@ fn units_at(row: [Units; 32], i: usize) -> Units {
 }
 
 // A member, the member that it was reached from, and the capacity of their link.
-fn reached(member: Member, from: Member, capacity: Units) {
-    print::text(b" ");
-    print::member(member);
-    print::text(b"<");
-    print::member(from);
-    print::text(b":");
-    print::units(capacity);
+fn reached(page: &mut [u8], at: usize, member: Member, from: Member, capacity: Units) -> usize {
+    let at = print::text(page, at, b" ");
+    let at = print::member(page, at, member);
+    let at = print::text(page, at, b"<");
+    let at = print::member(page, at, from);
+    let at = print::text(page, at, b":");
+    print::units(page, at, capacity)
 }
 
-fn walk(f: Feeder) {
+fn walk(page: &mut [u8], at: usize, f: Feeder) -> usize {
     let member = f.member;
     let parent = f.parent;
     let toward = f.toward;
     let n = f.members as usize;
-    print::text(b" ");
-    print::member(member[0]);
+    let mut place = print::text(page, at, b" ");
+    place = print::member(page, place, member[0]);
     for i in 1..n {
         let from = position_at(parent, i) as usize;
-        reached(
+        place = reached(
+            page,
+            place,
             member_at(member, i),
             member_at(member, from),
             units_at(toward, i),
         );
     }
+    place
 }
 
-fn line(c: Checked) {
+fn verdict(page: &mut [u8], at: usize, c: Checked) -> usize {
     let verdict = c.verdict;
     let feeder = c.feeder;
     match verdict {
-        Verdict::Sound => walk(feeder),
-        Verdict::Refused(number, place) => refused(number, place),
+        Verdict::Sound => walk(page, at, feeder),
+        Verdict::Refused(number, place) => refused(page, at, number, place),
     }
-    print::text(b"\n");
 }
 
-fn read(fd: i32) {
+fn line(page: &mut [u8], at: usize, c: Checked) -> usize {
+    let at = verdict(page, at, c);
+    print::text(page, at, b"\n")
+}
+
+fn read(page: &mut [u8], at: usize, fd: i32) -> usize {
     let mut file = [0u8; 16648];
-    let n = io::read_full(fd, &mut file);
+    let got = show::read(fd, &mut file);
     libc::close(fd);
-    line(market::market(&file[..n]));
+    if got < 0 {
+        return print::text(page, at, b" cannot be read\n");
+    }
+    let n = io::count(got, &file);
+    line(page, at, market::market(&file[..n]))
 }
 
-fn named(path: &[u8]) {
-    print::text(path);
+fn named(page: &mut [u8], path: &[u8]) -> usize {
+    let at = print::text(page, 0, path);
     let fd = os::open_read(path);
     if fd < 0 {
-        print::text(b" cannot be opened\n");
-    } else {
-        read(fd);
+        return print::text(page, at, b" cannot be opened\n");
     }
+    read(page, at, fd)
 }
 
 fn case(i: usize) {
     let mut name = [0u8; 64];
     let k = os::arg(i, &mut name);
-    named(&name[..k]);
+    let mut page = [0u8; 1024];
+    let end = named(&mut page, &name[..k]);
+    if !show::write(STDOUT_FILENO, &page, end) {
+        io::write_all(STDOUT_FILENO, b"cannot be written\n");
+    }
 }
 
 fn main() {

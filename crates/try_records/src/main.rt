@@ -1,42 +1,71 @@
-// Prints each record on standard input as it is read.
+// Writes each record on standard input as it is read.
 use libc::STDIN_FILENO;
+use libc::STDOUT_FILENO;
+use numbers::Member;
+use numbers::Price;
+use numbers::Units;
 use records::Reading;
 
-fn line(r: Reading) {
-    match r {
-        Reading::Link(a, b, c) => {
-            print::text(b"link ");
-            print::member(a);
-            print::text(b" ");
-            print::member(b);
-            print::text(b" ");
-            print::units(c);
-        }
-        Reading::Offer(j, u, p) => {
-            print::text(b"offer ");
-            print::member(j);
-            print::text(b" ");
-            print::units(u);
-            print::text(b" ");
-            print::price(p);
-        }
-        Reading::Fault(k) => {
-            print::text(b"fault ");
-            print::number(k as i64);
-        }
-    }
-    print::text(b"\n");
+fn link(page: &mut [u8], at: usize, a: Member, b: Member, capacity: Units) -> usize {
+    let at = print::text(page, at, b"link ");
+    let at = print::member(page, at, a);
+    let at = print::text(page, at, b" ");
+    let at = print::member(page, at, b);
+    let at = print::text(page, at, b" ");
+    print::units(page, at, capacity)
 }
 
-fn lines(file: &[u8]) {
+fn offer(page: &mut [u8], at: usize, member: Member, amount: Units, price: Price) -> usize {
+    let at = print::text(page, at, b"offer ");
+    let at = print::member(page, at, member);
+    let at = print::text(page, at, b" ");
+    let at = print::units(page, at, amount);
+    let at = print::text(page, at, b" ");
+    print::price(page, at, price)
+}
+
+fn fault(page: &mut [u8], at: usize, number: u8) -> usize {
+    let at = print::text(page, at, b"fault ");
+    print::number(page, at, number as i64)
+}
+
+fn reading(page: &mut [u8], at: usize, r: Reading) -> usize {
+    match r {
+        Reading::Link(a, b, c) => link(page, at, a, b, c),
+        Reading::Offer(j, u, p) => offer(page, at, j, u, p),
+        Reading::Fault(k) => fault(page, at, k),
+    }
+}
+
+fn line(page: &mut [u8], at: usize, r: Reading) -> usize {
+    let at = reading(page, at, r);
+    print::text(page, at, b"\n")
+}
+
+fn lines(page: &mut [u8], file: &[u8]) -> usize {
     let n = file.len() / 8;
+    let mut at = 0;
     for i in 0..n {
-        line(records::read_at(file, i));
+        at = line(page, at, records::read_at(file, i));
+    }
+    at
+}
+
+fn write(file: &[u8]) {
+    let mut page = [0u8; 2048];
+    let end = lines(&mut page, file);
+    if !show::write(STDOUT_FILENO, &page, end) {
+        io::write_all(STDOUT_FILENO, b"cannot be written\n");
     }
 }
 
 fn main() {
     let mut file = [0u8; 512];
-    let n = io::read_full(STDIN_FILENO, &mut file);
-    lines(&file[..n]);
+    let got = show::read(STDIN_FILENO, &mut file);
+    if got < 0 {
+        io::write_all(STDOUT_FILENO, b"cannot be read\n");
+        return;
+    }
+    let n = io::count(got, &file);
+    write(&file[..n]);
 }

@@ -1,14 +1,16 @@
 -- `walk` ends: the positions left fall. Assumes nothing.
+use mathlib.Core.Path.{_≡_}
 use Prim.Native.Nat.{_-_}
+use lib.ListN.{length}
 use borrow.Author.Needs.{needs}
 use Rattle.try_files.proofs.walk.Statement.{statement}
 use Rattle.try_files.proofs.walk.Tie as tie
 
 abbrev Inv-loop : tie.InvT-loop
-Inv-loop member parent toward n i₀ i = Unit {0}
+Inv-loop page₀ at member parent toward n place₀ i₀ page place i = length page ≡ length page₀
 
 abbrev μ-loop : tie.MeasureT-loop
-μ-loop member parent toward n i₀ i = n - i
+μ-loop page₀ at member parent toward n place₀ i₀ page place i = n - i
 
 cast-n : tie.Need-cast-n Inv-loop μ-loop
 cast-n c = search needs
@@ -55,11 +57,32 @@ loop-less c = search needs
 loop-again : tie.Need-loop-again Inv-loop μ-loop
 loop-again c = search needs
 
+same-length : tie.Need-same-length Inv-loop μ-loop
+same-length c = search needs
+
 returns : tie.Need-returns Inv-loop μ-loop
 returns c = search needs
 
 pub walk-spec : {M : Type 1} → statement M
 walk-spec =
     tie.close
-    (tie.spec Inv-loop μ-loop cast-n slice-aggregate-text text-requires array-copy-out-member member-requires loop-holds position-at-requires cast-from member-at-requires
-    member-at-requires-2 units-at-requires reached-requires add-i loop-less loop-again returns)
+    (tie.spec
+    Inv-loop
+    μ-loop
+    cast-n
+    slice-aggregate-text
+    text-requires
+    array-copy-out-member
+    member-requires
+    loop-holds
+    position-at-requires
+    cast-from
+    member-at-requires
+    member-at-requires-2
+    units-at-requires
+    reached-requires
+    add-i
+    loop-less
+    loop-again
+    same-length
+    returns)

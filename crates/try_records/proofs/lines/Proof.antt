@@ -7,10 +7,10 @@ use Rattle.try_records.proofs.lines.Statement.{statement}
 use Rattle.try_records.proofs.lines.Tie as tie
 
 abbrev Inv-loop : tie.InvT-loop
-Inv-loop file n i₀ i = n ≡ length file / 8
+Inv-loop page₀ file n at₀ i₀ page at i = (n ≡ length file / 8) × (length page ≡ length page₀)
 
 abbrev μ-loop : tie.MeasureT-loop
-μ-loop file n i₀ i = n - i
+μ-loop page₀ file n at₀ i₀ page at i = n - i
 
 loop-holds : tie.Need-loop-holds Inv-loop μ-loop
 loop-holds c = search needs
@@ -30,10 +30,23 @@ loop-less c = search needs
 loop-again : tie.Need-loop-again Inv-loop μ-loop
 loop-again c = search needs
 
+same-length : tie.Need-same-length Inv-loop μ-loop
+same-length c = search needs
+
 returns : tie.Need-returns Inv-loop μ-loop
 returns c = search needs
 
 pub lines-spec : {M : Type 1} → statement M
 lines-spec =
     tie.close
-    (tie.spec Inv-loop μ-loop loop-holds read-at-requires line-requires add-i loop-less loop-again returns)
+    (tie.spec
+    Inv-loop
+    μ-loop
+    loop-holds
+    read-at-requires
+    line-requires
+    add-i
+    loop-less
+    loop-again
+    same-length
+    returns)
