@@ -34,7 +34,7 @@ fn answer(file: &[u8]) -> u8 {
     let mut page = [0u8; PAGE];
     let shown = show::lines(file, &mut page);
     let end = shown.end;
-    if !show::write(STDOUT_FILENO, &page, end) {
+    if !streams::write(STDOUT_FILENO, &page, end) {
         unwritten(end);
         return NO_ANSWER;
     }
@@ -45,7 +45,7 @@ fn answer(file: &[u8]) -> u8 {
 // it is too long.
 fn clear() -> u8 {
     let mut file = [0u8; 16640];
-    let got = show::read(STDIN_FILENO, &mut file);
+    let got = streams::read(STDIN_FILENO, &mut file);
     if got < 0 {
         os::fail(b"clear: cannot read the market");
         return NO_ANSWER;

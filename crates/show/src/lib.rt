@@ -1,8 +1,5 @@
-// What the programs over the clearing share: a market's file is read until its end is certain, its answer or its refusal
-// becomes lines on a page, and a page is written whole.
-ghost use lib.ListN.{length};
+// A market's answer, or its refusal, as lines on a page that the caller lends.
 ghost use Rattle.io.specs.Counts.{Counts};
-ghost use Rattle.libc.specs.Io.{Moved};
 use numbers::Price;
 use numbers::Units;
 use records::four;
@@ -138,32 +135,4 @@ pub fn lines(file: &[u8], page: &mut [u8]) -> Shown
     }
     let end = refusal_line(page, code);
     Shown { end, refused: true }
-}
-
-// Reads until the file is full or its end is certain, and gives the number of bytes read; -1 where a read failed, and errno
-// says why.
-pub fn read(fd: i32, file: &mut [u8]) -> isize
-    ensures { λ r. ⌜ Moved (length (now (file .entry))) r ⌝ }
-{
-    let mut n: usize = 0;
-    while n < file.len() {
-        let got = libc::read(fd, &mut file[n..]);
-        if got < 0 {
-            return -1;
-        }
-        if got == 0 {
-            return n as isize;
-        }
-        n += got as usize;
-    }
-    n as isize
-}
-
-// Writes a page up to the place that its text reached, in one write. False where not all of the text was written: the page is
-// full, or the write failed.
-pub fn write(fd: i32, page: &[u8], end: usize) -> bool {
-    if page.len() <= end {
-        return false;
-    }
-    io::write_all(fd, &page[..end])
 }

@@ -71,7 +71,7 @@ fn line(page: &mut [u8], at: usize, c: Checked) -> usize {
 
 fn read(page: &mut [u8], at: usize, fd: i32) -> usize {
     let mut file = [0u8; 16648];
-    let got = show::read(fd, &mut file);
+    let got = streams::read(fd, &mut file);
     libc::close(fd);
     if got < 0 {
         return print::text(page, at, b" cannot be read\n");
@@ -94,7 +94,7 @@ fn case(i: usize) {
     let k = os::arg(i, &mut name);
     let mut page = [0u8; 1024];
     let end = named(&mut page, &name[..k]);
-    if !show::write(STDOUT_FILENO, &page, end) {
+    if !streams::write(STDOUT_FILENO, &page, end) {
         io::write_all(STDOUT_FILENO, b"cannot be written\n");
     }
 }

@@ -14,7 +14,7 @@ fn read(page: &mut [u8], at: usize, fd: i32) -> usize
     requires { ⌜ at ≤ length (now page) ⌝ }
 {
     let mut file = [0u8; 16640];
-    let got = show::read(fd, &mut file);
+    let got = streams::read(fd, &mut file);
     libc::close(fd);
     if got < 0 {
         return print::text(page, at, b"cannot be read\n");
@@ -38,7 +38,7 @@ fn case(i: usize) {
     let k = os::arg(i, &mut name);
     let mut page = [0u8; 2112];
     let end = named(&mut page, &name[..k]);
-    if !show::write(STDOUT_FILENO, &page, end) {
+    if !streams::write(STDOUT_FILENO, &page, end) {
         io::write_all(STDOUT_FILENO, b"cannot be written\n");
     }
 }

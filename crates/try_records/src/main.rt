@@ -54,14 +54,14 @@ fn lines(page: &mut [u8], file: &[u8]) -> usize {
 fn write(file: &[u8]) {
     let mut page = [0u8; 2048];
     let end = lines(&mut page, file);
-    if !show::write(STDOUT_FILENO, &page, end) {
+    if !streams::write(STDOUT_FILENO, &page, end) {
         io::write_all(STDOUT_FILENO, b"cannot be written\n");
     }
 }
 
 fn main() {
     let mut file = [0u8; 512];
-    let got = show::read(STDIN_FILENO, &mut file);
+    let got = streams::read(STDIN_FILENO, &mut file);
     if got < 0 {
         io::write_all(STDOUT_FILENO, b"cannot be read\n");
         return;

@@ -2,8 +2,8 @@
 use native.Mathlib.Omega.{arith}
 use borrow.Author.Needs.{needs}
 use Rattle.print.proofs.Puts.{counted}
-use Rattle.show.proofs.write.Statement.{statement}
-use Rattle.show.proofs.write.Tie as tie
+use Rattle.streams.proofs.write.Statement.{statement}
+use Rattle.streams.proofs.write.Tie as tie
 
 returns : tie.Need-returns
 returns c = search needs

@@ -6,9 +6,9 @@ use lib.ListN.{length, take, drop, length-take, length-drop}
 use mir.Syntax.{w64}
 use mir.Val.{SFits}
 use borrow.Author.Needs.{needs}
-use Rattle.show.proofs.Moves.{Came, came, within}
-use Rattle.show.proofs.read.Statement.{statement}
-use Rattle.show.proofs.read.Tie as tie
+use Rattle.streams.proofs.Moves.{Came, came, within}
+use Rattle.streams.proofs.read.Statement.{statement}
+use Rattle.streams.proofs.read.Tie as tie
 
 abbrev Inv-loop : tie.InvT-loop
 Inv-loop fd file₀ n₀ file n = (n ≤ length file₀) × (length file ≡ length file₀)
