@@ -1,4 +1,7 @@
 // What the programs read and write: a file is read until its end is certain, and a page is written whole.
+ghost use mathlib.Core.Path.{_≡_};
+ghost use mathlib.Core.Bool.{false};
+ghost use Prim.Native.Nat.{_≤_};
 ghost use lib.ListN.{length};
 ghost use Rattle.libc.specs.Io.{Moved};
 
@@ -23,7 +26,9 @@ pub fn read(fd: i32, file: &mut [u8]) -> isize
 
 // Writes a page up to the place that its text reached, in one write. False where not all of the text was written: the page is
 // full, or the write failed.
-pub fn write(fd: i32, page: &[u8], end: usize) -> bool {
+pub fn write(fd: i32, page: &[u8], end: usize) -> bool
+    ensures { λ r. ⌜ (length (now (page .entry)) ≤ end → r ≡ false) ⌝ }
+{
     if page.len() <= end {
         return false;
     }
