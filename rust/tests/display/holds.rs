@@ -148,7 +148,7 @@ fn with_commas(number: i32) -> String {
     let (size, sign) = (number.abs(), if number < 0 { "-" } else { "" });
     match size {
         ..1000 => format!("{sign}{size}"),
-        ..1_000_000 => format!("{sign}{},{:03}", size / 1000, size % 1000),
+        1000..1_000_000 => format!("{sign}{},{:03}", size / 1000, size % 1000),
         _ => format!(
             "{sign}{},{:03},{:03}",
             size / 1_000_000,

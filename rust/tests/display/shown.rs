@@ -197,7 +197,7 @@ fn check_cell(cell: &str, link: &ShownLink) {
         None => (String::new(), "load closed"),
         Some(load) => (
             format!(r#"<rect class="used" width="{load}" height="100"/></svg>"#),
-            if link.full { "load full" } else { "load " },
+            if link.full { "load full" } else { "load" },
         ),
     };
     assert!(cell.contains(&used), "{cell}");

@@ -8,6 +8,9 @@ use clearing::{LinkFlow, Refusal, CLOSED, FULL};
 
 const STYLE: &str = include_str!("page.css");
 
+/// The cells of member 1, which no link leads to.
+const NO_LINK: &str = r#"<td class="link"></td><td class="carries"></td><td class="load"></td>"#;
+
 /// What is shown of a market, cleared or refused, under its file's name.
 pub fn page(name: &str, result: &Result<Report, Refusal>) -> String {
     let name = escaped(name);
@@ -83,15 +86,11 @@ fn item(clauses: &[String]) -> String {
 }
 
 fn row(row: &Row) -> String {
-    let (trade, value) = (
-        words::trade(row.member.net),
-        words::grouped(row.member.value.0),
-    );
+    let entry = &row.member;
+    let (trade, value) = (words::trade(entry.net), words::grouped(entry.value.0));
     let link = match &row.link {
         Some(link) => link_cells(link),
-        None => {
-            r#"<td class="link"></td><td class="carries"></td><td class="load"></td>"#.to_string()
-        }
+        None => NO_LINK.to_string(),
     };
     format!(
         "<tr>{}<td>{trade}</td><td class=\"value\">{value}</td>{link}</tr>\n",
@@ -99,46 +98,47 @@ fn row(row: &Row) -> String {
     )
 }
 
-/// A member's number with the lines of the tree.
+/// A member's number, with the lines of the tree.
 fn member(row: &Row) -> String {
-    let step = row.lines.len();
-    let mut lines = String::new();
-    let mut line = |class: &str, step: usize| {
-        lines += &format!(r#"<i class="{class}" style="--step:{step}"></i>"#);
-    };
-    for (step, _) in row
-        .lines
-        .iter()
-        .enumerate()
-        .filter(|(_, goes_on)| **goes_on)
-    {
-        line("past", step);
-    }
-    match (row.straight, row.lines.last()) {
-        (true, _) if row.link.is_some() => line("above", step),
-        (false, Some(goes_on)) => {
-            if !goes_on {
-                line("last", step - 1);
-            }
-            line("arm", step - 1);
-        }
-        _ => {}
-    }
-    if row.leads_on {
-        line("below", step);
-    }
-    let number = row.member.member;
+    let line = |(look, step)| format!(r#"<i class="{look}" style="--step:{step}"></i>"#);
+    let lines: String = lines(row).into_iter().map(line).collect();
+    let (step, number) = (row.lines.len(), row.member.member);
     format!(r#"<th scope="row" style="--step:{step}">{lines}{number}</th>"#)
 }
 
+/// The lines of the tree in a member's row, each with its look and its step.
+fn lines(row: &Row) -> Vec<(&'static str, usize)> {
+    let mut lines = Vec::new();
+    for (step, _) in row.lines.iter().enumerate().filter(|line| *line.1) {
+        lines.push(("past", step));
+    }
+    let own = row.lines.len();
+    match row.lines.last() {
+        Some(&goes_on) if !row.straight => {
+            lines.extend((!goes_on).then_some(("last", own - 1)));
+            lines.push(("arm", own - 1));
+        }
+        _ => lines.extend(row.link.map(|_| ("above", own))),
+    }
+    lines.extend(row.leads_on.then_some(("below", own)));
+    lines
+}
+
 fn link_cells(link: &LinkFlow) -> String {
-    let (ends, carried, state) = (words::ends(link), words::carried(link), words::state(link));
-    let percent = words::percent(link).map(|percent| percent + " ");
-    let percent = percent.unwrap_or_default();
-    format!(
-        r#"<td class="link">{ends}</td><td class="carries">{carried}</td><td class="load {state}">{}{percent}<b>{state}</b></td>"#,
-        bar(link)
-    )
+    let (ends, carried, load) = (words::ends(link), words::carried(link), load(link));
+    format!(r#"<td class="link">{ends}</td><td class="carries">{carried}</td>{load}"#)
+}
+
+/// The cell of a load, whose colour has a word with it.
+fn load(link: &LinkFlow) -> String {
+    let (bar, state) = (bar(link), words::state(link));
+    match words::percent(link) {
+        None => format!(r#"<td class="load closed">{bar}<b>{state}</b></td>"#),
+        Some(percent) if link.load == FULL => {
+            format!(r#"<td class="load full">{bar}{percent} <b>{state}</b></td>"#)
+        }
+        Some(percent) => format!(r#"<td class="load">{bar}{percent}</td>"#),
+    }
 }
 
 /// The bar of a load, as wide as the load of the lease.

@@ -100,15 +100,13 @@ fn wider(market: &Market, now: &Answer, link: &LinkFlow) -> Result<Wider, Refusa
 /// The market with the most on one link, and all else as it was.
 fn widened(market: &Market, link: &LinkFlow) -> Market {
     let &LinkFlow { a, b, capacity, .. } = link;
-    let record = Link { a, b, capacity }.bytes();
-    let wider = Link {
-        capacity: MOST,
-        ..Link { a, b, capacity }
-    };
+    let record = |capacity| Link { a, b, capacity }.bytes();
     let mut file = market.file().to_vec();
     let (records, _) = file.as_chunks_mut();
-    for found in records.iter_mut().filter(|found| **found == record) {
-        *found = wider.bytes();
+    for found in records {
+        if *found == record(capacity) {
+            *found = record(MOST);
+        }
     }
     Market::from(file)
 }
