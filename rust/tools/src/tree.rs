@@ -1,7 +1,8 @@
 //! A feeder as rows, one for each member, that draw its tree from member 1 on. Of the branches of a
-//! member the largest goes straight down in the member's own column, and the others stand one step to
-//! the right of it; so a branch that stands to the right has less than half of what it leaves, and
-//! 32 members take 4 steps at most.
+//! member the largest with several members goes straight down in the member's own column, and the
+//! others stand one step to the right. One of several members that stands there leaves another behind
+//! that is no smaller, and so has less than half: 32 members take 4 steps at most, to branches of 15,
+//! 7, 3 and 1.
 
 use clearing::{Answer, LinkFlow, Member, MemberNet};
 use std::cmp::Reverse;
