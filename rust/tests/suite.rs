@@ -3,6 +3,7 @@
 
 mod closely;
 mod common;
+mod display;
 mod dynamic;
 mod examples;
 mod files;

@@ -1,0 +1,183 @@
+//! What must be said of full and closed links, from two clearings of the test's own market.
+
+use super::shown::words;
+use crate::common::{Link, Offer, Sheet};
+use clearing::{clear_file, Answer, Market};
+
+/// How often each case was met.
+#[derive(Debug, Default)]
+pub struct Seen {
+    most: u64,
+    alone: u64,
+    nobody: u64,
+    closed: u64,
+    more: u64,
+    from_idle: u64,
+    turned: u64,
+    less: u64,
+    wrapped: u64,
+}
+
+impl Seen {
+    /// Fails where a case was not met this often, or a rare one not at all.
+    pub fn enough(&self, each: u64) {
+        let Seen {
+            most,
+            alone,
+            nobody,
+            closed,
+            more,
+            from_idle,
+            turned,
+            less,
+            wrapped,
+        } = *self;
+        let rare = [nobody, turned];
+        let often = [most, alone, closed, more, from_idle, less, wrapped];
+        assert!(rare.iter().all(|&seen| seen >= each.min(1)), "{self:?}");
+        assert!(often.iter().all(|&seen| seen >= each), "{self:?}");
+    }
+}
+
+/// The market of a file.
+pub fn sheet(file: &[u8]) -> Sheet {
+    let market = Market::from(file.to_vec());
+    let links = market.links().map(|link| {
+        let capacity = i64::from(link.capacity.0);
+        Link::between(link.a.0.into(), link.b.0.into(), capacity)
+    });
+    let offers = market.offers().map(|offer| Offer {
+        member: offer.member.0.into(),
+        units: offer.units.0.into(),
+        price: offer.price.0.into(),
+    });
+    let offers: Vec<Offer> = offers.collect();
+    let n = offers.iter().map(|offer| offer.member).max();
+    Sheet::new(n.expect("an offer"), links.collect(), offers)
+}
+
+fn answer(sheet: &Sheet) -> Answer {
+    clear_file(&sheet.records().concat()).expect("an answer")
+}
+
+/// The sentences about a market's full and closed links, in order.
+pub fn sentences(sheet: &Sheet, seen: &mut Seen) -> Vec<String> {
+    let now = answer(sheet);
+    let mut sentences = Vec::new();
+    for (place, link) in sheet.links.iter().enumerate() {
+        let flow = i64::from(now.links()[place].flow.0);
+        if flow.abs() < link.capacity {
+            continue;
+        }
+        let mut wider = sheet.clone();
+        wider.links[place].capacity = 40;
+        let then = answer(&wider);
+        let gain = then.total().0 - now.total().0;
+        let sentence = sentence(link, &now, &then, seen);
+        sentences.push((link.capacity == 0, -gain, place, sentence));
+    }
+    sentences.sort();
+    match sentences.is_empty() {
+        true => vec!["no link is full".to_string()],
+        false => sentences
+            .into_iter()
+            .map(|(.., sentence)| sentence)
+            .collect(),
+    }
+}
+
+fn sentence(link: &Link, now: &Answer, then: &Answer, seen: &mut Seen) -> String {
+    let state = match link.capacity {
+        0 => "closed",
+        _ => "full",
+    };
+    seen.closed += u64::from(link.capacity == 0);
+    let head = format!("link {}-{} is {state}", link.a, link.b);
+    if link.capacity == 40 {
+        seen.most += 1;
+        return format!("{head} at 40 units, the most that a link can have");
+    }
+    if then.total() == now.total() {
+        seen.alone += 1;
+        return format!("{head}, but alone it holds nobody back");
+    }
+    assert!(then.total() > now.total());
+    let total = format!("the total would be {}", with_commas(then.total().0));
+    let mut clauses = Vec::new();
+    for (now, then) in now.members().iter().zip(then.members()) {
+        if is_held_back(now.net.0, then.net.0, seen) {
+            let (now, then, member) = (now.net.0, then.net.0, now.member);
+            let now = trades(now, ["sells", "stands idle", "buys"]);
+            let then = trades(then, ["sell", "stand idle", "buy"]);
+            clauses.push(format!("member {member} {now}, would {then}"));
+        }
+    }
+    if clauses.is_empty() {
+        seen.nobody += 1;
+        return format!("{head}: nobody would trade more, but {total}");
+    }
+    let said = format!("{head}: {}; {total}", clauses.join("; "));
+    seen.wrapped += u64::from(said.len() > 100);
+    said
+}
+
+fn is_held_back(now: i16, then: i16, seen: &mut Seen) -> bool {
+    let count = match (now.signum() * then.signum(), now.abs(), then.abs()) {
+        _ if now == then => return false,
+        (-1, ..) => &mut seen.turned,
+        (_, 0, _) => &mut seen.from_idle,
+        (_, now, then) if then > now => &mut seen.more,
+        _ => {
+            seen.less += 1;
+            return false;
+        }
+    };
+    *count += 1;
+    true
+}
+
+fn trades(net: i16, [sell, idle, buy]: [&str; 3]) -> String {
+    match net {
+        0 => idle.to_string(),
+        1.. => format!("{buy} {}", with_commas(net.into())),
+        _ => format!("{sell} {}", with_commas(-i32::from(net))),
+    }
+}
+
+fn with_commas(number: i32) -> String {
+    let (size, sign) = (number.abs(), if number < 0 { "-" } else { "" });
+    match size {
+        ..1000 => format!("{sign}{size}"),
+        1000..1_000_000 => format!("{sign}{},{:03}", size / 1000, size % 1000),
+        _ => format!(
+            "{sign}{},{:03},{:03}",
+            size / 1_000_000,
+            size / 1000 % 1000,
+            size % 1000
+        ),
+    }
+}
+
+/// The sentences of a text, each put together from its lines.
+pub fn of_text(text: &str) -> Vec<String> {
+    let (said, _) = text.split_once("\n\n").expect("a table");
+    let mut sentences: Vec<String> = Vec::new();
+    for line in said.lines().skip(1) {
+        match (line.strip_prefix("    "), sentences.last_mut()) {
+            (Some(more), Some(sentence)) => {
+                assert!(sentence.ends_with(';'), "{sentence}");
+                *sentence += " ";
+                *sentence += more;
+            }
+            _ => sentences.push(line.to_string()),
+        }
+    }
+    sentences
+}
+
+/// The sentences of a page's list.
+pub fn of_page(page: &str) -> Vec<String> {
+    let (_, list) = page.split_once("<ul>\n").expect("a list");
+    let (list, _) = list.split_once("</ul>").expect("an end");
+    list.lines().map(words).collect()
+}
