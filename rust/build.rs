@@ -60,7 +60,8 @@ fn in_checkout() -> Result<PathBuf, String> {
     let archive = folder.join("libentry.a");
     present(&archive)?;
     if root.join("crates").is_dir() {
-        up_to_date(&archive, &[root.join("crates.txt"), root.join("crates")])?;
+        let sources = ["KIT", "crates.txt", "crates"].map(|name| root.join(name));
+        up_to_date(&archive, &sources)?;
     }
     Ok(folder)
 }
@@ -94,11 +95,15 @@ fn up_to_date(archive: &Path, sources: &[PathBuf]) -> Result<(), String> {
     Ok(())
 }
 
-/// The first file that was changed after `built`: this one, or one in this folder.
+/// What was changed after `built`: this file or folder, or one in this folder. A folder is changed
+/// where a file of it is gone.
 fn newer_than(built: SystemTime, path: &Path) -> io::Result<Option<PathBuf>> {
     let own = fs::symlink_metadata(path)?;
+    if own.modified()? > built {
+        return Ok(Some(path.to_path_buf()));
+    }
     if !own.is_dir() {
-        return Ok((own.modified()? > built).then(|| path.to_path_buf()));
+        return Ok(None);
     }
     for entry in fs::read_dir(path)? {
         let newer = newer_than(built, &entry?.path())?;

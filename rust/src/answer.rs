@@ -48,7 +48,7 @@ pub struct LinkFlow {
 
 /// Clears the market in a file, whatever its bytes are.
 ///
-/// The answer stands on the heap: this needs hardly more stack than [`clear`].
+/// The answer stands on the heap: [`STACK`](crate::STACK) bytes of stack are enough for this too.
 ///
 /// ```
 /// use clearing::{clear_file, Price, Refusal};

@@ -26,8 +26,10 @@
 //!
 //! The package links `libentry.a`, which `rt staticlib entry` writes to `target/staticlib/` of the
 //! checkout that this package stands in. A service that is built elsewhere names the folder of its
-//! archive in the variable `CLEARING_ARCHIVE`. The archive is for x86-64 Linux. One binary can hold
-//! one version of this package: the archives of two would be taken for each other.
+//! archive in the variable `CLEARING_ARCHIVE`; it must be the archive of this version. The archive is
+//! for x86-64 Linux. One binary can hold one version of this package: the archives of two would be
+//! taken for each other. This package has a workspace of its own; a service that keeps it in a folder
+//! of its workspace names that folder in `exclude`.
 //!
 //! The package needs no standard library. Without its feature `alloc` (on by default) it allocates
 //! nothing, and has [`clear`], [`records`] and the types of their results.

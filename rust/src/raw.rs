@@ -9,7 +9,8 @@ pub const FILE_LIMIT: usize = 16_632;
 /// The most bytes that an answer has: 16 for each of 32 members.
 pub const ANSWER_LIMIT: usize = 512;
 
-/// Bytes of stack that are enough for a call of [`clear`], whatever the file.
+/// Bytes of stack that are enough for a call of [`clear`], or of one with a typed answer, whatever
+/// the file.
 pub const STACK: usize = 72 * 1024;
 
 extern "C" {
@@ -21,8 +22,13 @@ extern "C" {
 /// Gives the number of bytes written, 16 for each member; the bytes after them stay as they were.
 /// A refusal changes no byte. [`ANSWER_LIMIT`] bytes are enough for every market.
 ///
-/// A call needs [`STACK`] bytes of stack at most (68,944 were measured, by the example `bench`) and
+/// A call needs [`STACK`] bytes of stack at most (68,960 were measured, by the example `bench`) and
 /// no heap.
+///
+/// # Panics
+///
+/// Not with the archive of this version, which is proved to give no number but those of
+/// [`Refusal`]'s table. With that of other rules, a number that the table does not have panics.
 ///
 /// ```
 /// // One member that offers to stand idle at no price.

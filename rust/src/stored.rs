@@ -2,12 +2,12 @@
 //! read as records; what they say is not compared with the market's offers.
 
 use crate::record::links;
-use crate::{records, Link, Member, Offer, Record};
+use crate::{records, Link, Member, Offer, Record, ANSWER_LIMIT};
 use core::error::Error;
 use core::fmt;
 
 /// The most members that a market has.
-const MEMBERS: usize = 32;
+const MEMBERS: usize = ANSWER_LIMIT / 16;
 
 /// Why bytes are not an answer to a market. Records count from 0.
 #[derive(Clone, Copy, Debug, PartialEq, Eq, Hash)]
@@ -34,31 +34,47 @@ pub(crate) fn check(file: &[u8], answer: &[u8]) -> Result<(), NoAnswer> {
     if bytes != needed {
         return Err(NoAnswer::Length { bytes, needed });
     }
-    let mut earlier = (0, 0);
-    let (all, _) = answer.as_chunks::<8>();
-    for (record, bytes) in all.iter().enumerate() {
-        if record < count {
-            let member = Member(record as u8 + 1);
-            if bytes[..2] != [3, member.0] {
-                return Err(NoAnswer::Member { record, member });
-            }
-        } else if record < 2 * count - 1 {
-            let [kind, a, b, zero, ..] = *bytes;
-            if (kind, zero) != (4, 0) || (a, b) <= earlier || !joins(file, a, b) {
-                return Err(NoAnswer::Link { record });
-            }
-            earlier = (a, b);
-        } else if bytes[..4] != [5, 0, 0, 0] {
-            return Err(NoAnswer::Total { record });
+    let (records, _) = answer.as_chunks();
+    let (members, others) = records.split_at(count);
+    let (links, total) = others.split_at(count - 1);
+    check_members(members)?;
+    check_links(file, count, links)?;
+    check_total(2 * count - 1, total)
+}
+
+fn check_members(members: &[[u8; 8]]) -> Result<(), NoAnswer> {
+    for (record, bytes) in members.iter().enumerate() {
+        let member = Member(record as u8 + 1);
+        if bytes[..2] != [3, member.0] {
+            return Err(NoAnswer::Member { record, member });
         }
     }
     Ok(())
 }
 
+/// Of links whose first record has this number.
+fn check_links(file: &[u8], first: usize, links: &[[u8; 8]]) -> Result<(), NoAnswer> {
+    let mut earlier = (0, 0);
+    for (record, &[kind, a, b, zero, ..]) in (first..).zip(links) {
+        if (kind, zero) != (4, 0) || (a, b) <= earlier || !joins(file, a, b) {
+            return Err(NoAnswer::Link { record });
+        }
+        earlier = (a, b);
+    }
+    Ok(())
+}
+
+fn check_total(record: usize, total: &[[u8; 8]]) -> Result<(), NoAnswer> {
+    match total {
+        [[5, 0, 0, 0, ..]] => Ok(()),
+        _ => Err(NoAnswer::Total { record }),
+    }
+}
+
 /// The number of a file's members: the highest that a record names.
 fn highest_member(file: &[u8]) -> usize {
     let named = records(file).map(|record| match record {
-        Record::Link(Link { b, .. }) => b.0,
+        Record::Link(Link { a, b, .. }) => a.0.max(b.0),
         Record::Offer(Offer { member, .. }) => member.0,
         Record::Other(_) => 0,
     });

@@ -10,6 +10,16 @@ use std::process::Command;
 
 const ARCHIVE: &str = "target/staticlib/libentry.a";
 
+/// What an archive is made of: files, and the folders that they are in.
+const SOURCES: [&str; 6] = [
+    "KIT",
+    "crates.txt",
+    "crates",
+    "crates/x",
+    "crates/x/src",
+    "crates/x/src/lib.rt",
+];
+
 /// An archive with nothing in it.
 const EMPTY: &str = "!<arch>\n";
 
@@ -92,8 +102,11 @@ fn checkout(name: &str) -> Folder {
     folder.write("rust/Cargo.toml", format!("{}[workspace]\n", manifest()));
     folder.write("rust/build.rs", own("build.rs"));
     folder.write("rust/src/lib.rs", "");
-    for source in ["crates.txt", "crates/x/src/lib.rt"] {
-        age(&folder.write(source, ""), 200);
+    for file in ["KIT", "crates.txt", "crates/x/src/lib.rt"] {
+        folder.write(file, "");
+    }
+    for source in SOURCES {
+        age(&folder.path(source), 200);
     }
     folder
 }
@@ -116,7 +129,7 @@ fn a_missing_archive_is_named_with_both_remedies() {
 fn an_archive_older_than_a_source_is_refused() {
     let folder = checkout("stale archive");
     let archive = folder.write(ARCHIVE, EMPTY);
-    for source in ["crates.txt", "crates/x/src/lib.rt"] {
+    for source in SOURCES {
         age(&archive, 100);
         assert_runs(cargo(&folder, "rust").arg("build"));
         let path = folder.path(source);

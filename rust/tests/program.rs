@@ -236,6 +236,16 @@ fn a_market_that_cannot_be_read_has_no_answer() {
 }
 
 #[test]
+fn the_status_tells_even_where_no_message_can() {
+    for words in [&["no such.market"][..], &["-x"], &["a", "b"]] {
+        let full = File::options().write(true).open("/dev/full").expect("full");
+        let output = output(script().args(words).stderr(full));
+        assert_eq!(output.status.code(), Some(2), "{words:?}");
+        assert_eq!(printed(&output), "");
+    }
+}
+
+#[test]
 fn a_closed_standard_input_does_not_matter_to_a_file() {
     assert_answer(&output(script_with("<&-").arg(example("A"))), 0, A);
     assert_answer(&output(script_with("<&- 2>&-").arg(example("A"))), 0, A);

@@ -3,6 +3,9 @@
 use crate::examples::committed;
 use crate::program::{output, printed, root, run, said};
 use std::fs::File;
+use std::io::Write;
+use std::os::fd::OwnedFd;
+use std::os::unix::net::UnixStream;
 use std::path::PathBuf;
 use std::process::{Command, Output};
 
@@ -63,6 +66,47 @@ fn a_tool_that_cannot_read_or_write_says_so() {
     ] {
         let output = output(tool(name, words).stdout(full()));
         assert_failed(&output, &format!("{name}: cannot write: "));
+    }
+}
+
+/// A tool with a word of the shell's on its streams, as `<&-`, which closes standard input.
+fn tool_with(stream: &str, name: &str, words: &[&str]) -> Command {
+    let mut command = Command::new("sh");
+    let line = format!("exec \"$0\" \"$@\" {stream}");
+    command
+        .args(["-c", &line])
+        .arg(root().join("bin").join(name));
+    command.args(words).current_dir(root().join("examples"));
+    command
+}
+
+#[test]
+fn a_closed_stream_is_no_market_and_no_answer() {
+    for (name, words) in [
+        ("market", &["text"][..]),
+        ("market", &["bytes", "-"]),
+        ("feeder", &[]),
+    ] {
+        let closed = output(&mut tool_with("<&-", name, words));
+        assert_failed(&closed, &format!("{name}: cannot read standard input: "));
+        let closed = output(&mut tool_with(">&-", name, words));
+        assert_failed(&closed, &format!("{name}: standard output is closed"));
+        let full = output(tool_with("2>/dev/full", name, words).arg("-x"));
+        assert_eq!(full.status.code(), Some(2), "{name}");
+    }
+    let named = output(&mut tool_with("<&-", "feeder", &["A.market"]));
+    assert_eq!(named.status.code(), Some(0), "{}", said(&named));
+}
+
+#[test]
+fn a_market_that_is_not_there_whole_is_none() {
+    for (name, words) in [("market", &["text"][..]), ("feeder", &["-"])] {
+        let (mut ours, theirs) = UnixStream::pair().expect("two sockets");
+        theirs.set_nonblocking(true).expect("it does not wait");
+        ours.write_all(&committed("F")[..8]).expect("a part of it");
+        let output = output(tool(name, words).stdin(OwnedFd::from(theirs)));
+        assert_failed(&output, &format!("{name}: cannot read standard input: "));
+        drop(ours);
     }
 }
 

@@ -142,11 +142,10 @@ fn bytes_that_are_no_answer_are_refused_with_their_first_fault() {
     let length = |bytes, needed| Err(NoAnswer::Length { bytes, needed });
     assert_eq!(Answer::decode(&[], &answer), Err(NoAnswer::NoMarket));
     assert_eq!(Answer::decode(&[], &[]), Err(NoAnswer::NoMarket));
-    let member_33 = [2, 33, 0, 0, 0, 0, 0, 0];
-    assert_eq!(
-        Answer::decode(&member_33, &[0; 528]),
-        Err(NoAnswer::NoMarket)
-    );
+    for above_32 in [[2, 33, 0, 0, 0, 0, 0, 0], [1, 33, 1, 0, 0, 0, 0, 0]] {
+        let decoded = Answer::decode(&above_32, &[0; 528]);
+        assert_eq!(decoded, Err(NoAnswer::NoMarket));
+    }
     assert_eq!(Answer::decode(&a, &[]), length(0, 48));
     assert_eq!(Answer::decode(&a, &answer[..47]), length(47, 48));
     assert_eq!(Answer::decode(&c, &answer), length(48, 16));

@@ -6,11 +6,13 @@ use super::{assert_answer, assert_no_answer, output, printed, root, run, said};
 use std::env;
 use std::fs;
 use std::os::unix::fs::symlink;
-use std::path::{Path, PathBuf};
-use std::process::{Command, Stdio};
+use std::path::PathBuf;
+use std::process::{Command, Output, Stdio};
 
 const PROGRAM: &str = "target/bin/clear";
+const PROGRAM_BUILT: &str = "target/built-clear";
 const ARCHIVE: &str = "target/staticlib/libentry.a";
+const ARCHIVE_BUILT: &str = "target/built-entry";
 const SOURCE: &str = "crates/x/src/lib.rt";
 
 /// What the scripts and the test's own programs call.
@@ -49,11 +51,18 @@ impl Layout {
         }
         layout.0.write(SOURCE, "");
         layout.0.write("crates.txt", "");
-        for source in ["crates.txt", "crates", "crates/x", "crates/x/src", SOURCE] {
+        for source in [
+            "KIT",
+            "crates.txt",
+            "crates",
+            "crates/x",
+            "crates/x/src",
+            SOURCE,
+        ] {
             age(&layout.path(source), 200);
         }
         layout.executable(PROGRAM, &cleared("old"));
-        age(&layout.path(PROGRAM), 100);
+        age(&layout.0.write(PROGRAM_BUILT, ""), 100);
         layout.kit(BUILDS);
         layout
     }
@@ -84,13 +93,23 @@ impl Layout {
         self.executable("tools/rt", &body);
     }
 
-    /// A cargo that says yes to a build, and runs what is given in place of a program.
+    /// The archive, newer than its sources.
+    fn archive(&self) {
+        self.0.write(ARCHIVE, "");
+        self.0.write(ARCHIVE_BUILT, "");
+    }
+
+    /// A cargo that keeps a list of its calls and makes the given program, whatever it is to be called.
     fn cargo(&self, program: &str) {
-        let build = "[ \"$1\" != build ] || { echo \"$*\" >>builds; exit; }";
-        self.executable(
-            "tools/cargo",
-            &format!("cd {0}\n{build}\n{program}", quoted(&self.path(""))),
-        );
+        self.0.write("rust/Cargo.toml", "");
+        self.0.write("made", format!("#!/bin/sh\n{program}\n"));
+        let make = "
+            echo \"$PWD $*\" >>../builds
+            mkdir -p \"$CARGO_TARGET_DIR/release\"
+            for last; do :; done
+            cat ../made >\"$CARGO_TARGET_DIR/release/$last\"
+            chmod +x \"$CARGO_TARGET_DIR/release/$last\"";
+        self.executable("tools/cargo", make);
     }
 
     fn remove(&self, name: &str) {
@@ -101,7 +120,12 @@ impl Layout {
         let mut command = Command::new(self.path("bin").join(script));
         command.current_dir(env::temp_dir());
         command.env("PATH", self.path("tools"));
-        for variable in ["CARGO", "CARGO_TARGET_DIR", "CLEARING_ARCHIVE"] {
+        for variable in [
+            "CARGO",
+            "CARGO_TARGET_DIR",
+            "CARGO_BUILD_TARGET",
+            "CLEARING_ARCHIVE",
+        ] {
             command.env_remove(variable);
         }
         command
@@ -137,10 +161,6 @@ fn found(command: &str) -> PathBuf {
         .unwrap_or_else(|| panic!("{command} is missing"))
 }
 
-fn quoted(path: &Path) -> String {
-    format!("'{}'", path.display())
-}
-
 #[test]
 fn a_new_program_is_not_built() {
     let layout = Layout::new("new");
@@ -152,7 +172,7 @@ fn a_new_program_is_not_built() {
 
 #[test]
 fn a_program_older_than_a_source_is_built() {
-    for source in ["crates.txt", "crates/x/src", SOURCE] {
+    for source in ["KIT", "crates.txt", "crates/x/src", SOURCE] {
         let layout = Layout::new("older");
         age(&layout.path(source), 50);
         let message = layout.clears("new");
@@ -189,9 +209,7 @@ fn a_build_that_changes_nothing_is_not_repeated() {
 #[test]
 fn a_source_edited_during_a_build_is_newer() {
     let layout = Layout::new("edited");
-    layout.kit(&format!(
-        "{BUILDS}\nsleep 0.1; touch {SOURCE}; sleep 0.1; touch {PROGRAM}"
-    ));
+    layout.kit(&format!("{BUILDS}\nsleep 0.1; touch {SOURCE}; sleep 0.1"));
     layout.remove(PROGRAM);
     layout.clears("new");
     assert!(layout.clears("new").contains(SOURCE));
@@ -208,14 +226,39 @@ fn a_program_that_cannot_be_built_is_not_run() {
     for _ in 0..2 {
         assert!(layout.clears_nothing().contains("could not be built"));
     }
-    layout.kit("true");
-    assert!(layout.clears_nothing().contains("could not be built"));
     layout.remove("tools/rt");
     let message = layout.clears_nothing();
-    assert!(
-        message.contains("the program is missing, and rt"),
-        "{message}"
+    let reason = "the program is not known to be up to date, and rt";
+    assert!(message.contains(reason), "{message}");
+    layout.kit("true");
+    layout.remove(PROGRAM);
+    assert!(layout.clears_nothing().contains("could not be built"));
+}
+
+#[test]
+fn a_program_of_a_build_that_was_killed_is_not_run() {
+    let layout = Layout::new("killed");
+    age(&layout.path(SOURCE), 50);
+    layout.kit(&format!("{BUILDS}\nkill -9 $PPID"));
+    assert_eq!(
+        output(&mut layout.command("clear")).status.code(),
+        Some(2),
+        "the build was killed"
     );
+    layout.kit(BUILDS);
+    let message = layout.clears("new");
+    assert!(message.ends_with("clear: built\n"), "{message}");
+    assert_eq!(layout.calls(), "check clear\ncheck clear\n");
+}
+
+#[test]
+fn a_program_that_the_kit_alone_built_is_looked_at_once() {
+    let layout = Layout::new("unmarked");
+    layout.remove(PROGRAM_BUILT);
+    layout.0.write("target/stamp/clear", "");
+    layout.clears("old");
+    assert_eq!(layout.clears("old"), "");
+    assert_eq!(layout.calls(), "check clear\n");
 }
 
 #[test]
@@ -241,6 +284,17 @@ fn another_kit_is_named_when_it_builds() {
     assert!(first.contains(pinned.trim_end()), "{message}");
 }
 
+/// What two calls at once give.
+fn two_at_once(layout: &Layout) -> [Output; 2] {
+    let start = || {
+        let mut command = layout.command("clear");
+        let piped = command.stdin(Stdio::null()).stdout(Stdio::piped());
+        piped.stderr(Stdio::piped()).spawn().expect("it starts")
+    };
+    let both = [start(), start()];
+    both.map(|child| child.wait_with_output().expect("it ends"))
+}
+
 #[test]
 fn two_at_once_build_once() {
     let layout = Layout::new("two");
@@ -248,17 +302,20 @@ fn two_at_once_build_once() {
         "mkdir busy || exit 1; sleep 0.3; rmdir busy\n{BUILDS}"
     ));
     layout.remove(PROGRAM);
-    let start = || {
-        let mut command = layout.command("clear");
-        let piped = command.stdin(Stdio::null()).stdout(Stdio::piped());
-        piped.stderr(Stdio::piped()).spawn().expect("it starts")
-    };
-    let both = [start(), start()];
-    for child in both {
-        let output = child.wait_with_output().expect("it ends");
+    for output in two_at_once(&layout) {
         assert_answer(&output, 0, "new\n");
     }
     assert_eq!(layout.calls(), "check clear\n");
+}
+
+#[test]
+fn a_program_that_is_still_being_built_is_not_run() {
+    let layout = Layout::new("untried");
+    age(&layout.path(SOURCE), 50);
+    layout.kit(&format!("{BUILDS}\nsleep 0.3; exit 1"));
+    for output in two_at_once(&layout) {
+        assert_no_answer(&output, "could not be built");
+    }
 }
 
 #[test]
@@ -283,18 +340,20 @@ fn the_programs_digit_is_the_status() {
 #[test]
 fn a_rust_tool_hands_on_its_words_and_its_status() {
     let layout = Layout::new("tools");
-    layout.0.write(ARCHIVE, "");
-    layout.cargo("echo \"$*\" \"$CARGO_TARGET_DIR\"; exit 1");
-    let same = "--quiet --release --offline --package clearing-tools --bin";
-    let manifest = layout.path("rust/Cargo.toml");
+    layout.archive();
+    layout.cargo("echo \"${0##*/} $PWD $*\"; exit 1");
+    let words = "build --quiet --release --offline --package clearing-tools --bin";
     for tool in ["market", "feeder"] {
+        let here = env::temp_dir().canonicalize().expect("a folder");
         let output = output(layout.command(tool).args(["--help", "a  b"]));
-        let words = format!("{same} {tool} --manifest-path {}", manifest.display());
-        let folder = layout.path("target/cargo");
-        let line = format!("run {words} -- --help a  b {}\n", folder.display());
+        let line = format!("{tool} {} --help a  b\n", here.display());
         assert_answer(&output, 1, &line);
+        let message = format!("{tool}: building: the program is missing\n");
+        assert_eq!(said(&output), message);
         let builds = fs::read_to_string(layout.path("builds")).expect("it was built");
-        assert!(builds.ends_with(&format!("build {words}\n")), "{builds}");
+        let folder = layout.path("rust").canonicalize().expect("a folder");
+        let call = format!("{} {words} {tool}\n", folder.display());
+        assert!(builds.ends_with(&call), "{builds}");
     }
     assert_eq!(layout.calls(), "");
 }
@@ -306,10 +365,10 @@ fn a_rust_tool_has_a_new_archive() {
     layout.kit(&format!("mkdir -p target/staticlib; echo >{ARCHIVE}"));
     let message = output(&mut layout.command("market"));
     assert!(said(&message).contains("market: building: the archive is missing"));
-    age(&layout.path(ARCHIVE), 300);
-    let message = output(&mut layout.command("feeder"));
+    age(&layout.path(ARCHIVE_BUILT), 300);
+    let message = output(&mut layout.command("market"));
     assert!(said(&message).contains("is newer than the archive"));
-    let message = output(&mut layout.command("feeder"));
+    let message = output(&mut layout.command("market"));
     assert_eq!(said(&message), "");
     assert_eq!(layout.calls(), "staticlib entry\nstaticlib entry\n");
     layout.remove(ARCHIVE);
@@ -320,17 +379,21 @@ fn a_rust_tool_has_a_new_archive() {
 #[test]
 fn a_rust_tool_that_cannot_be_built_is_not_run() {
     let layout = Layout::new("toolless");
-    layout.0.write(ARCHIVE, "");
+    layout.archive();
+    layout.0.write("rust/Cargo.toml", "");
     let missing = output(&mut layout.command("market"));
     assert!(said(&missing).starts_with("market: cargo, which builds"));
     layout.executable("tools/cargo", "echo \"$1\"; exit 101");
     let failing = output(&mut layout.command("market"));
     assert!(said(&failing).ends_with("market: the program could not be built\n"));
+    layout.executable("tools/cargo", "true");
+    let empty = output(&mut layout.command("market"));
+    assert!(said(&empty).contains("cargo ended well, and made no "));
     layout.kit("exit 1");
     layout.remove(ARCHIVE);
     let unproved = output(&mut layout.command("market"));
     assert!(said(&unproved).ends_with("market: the archive could not be built\n"));
-    for output in [missing, failing, unproved] {
+    for output in [missing, failing, empty, unproved] {
         assert_eq!(printed(&output), "");
         assert_eq!(output.status.code(), Some(2));
     }

@@ -8,7 +8,7 @@ use clearing::{
 use std::cmp::Reverse;
 
 /// The most that a link can have.
-pub const MOST: Units = Units(40);
+const MOST: Units = Units(40);
 
 /// A cleared market as it is shown.
 #[derive(Clone, Debug, PartialEq, Eq)]

@@ -40,7 +40,8 @@ impl Tool {
             Ok(End::Done) => ExitCode::from(0),
             Ok(End::Refused) => ExitCode::from(1),
             Err(message) => {
-                eprintln!("{}: {message}", self.name);
+                // Where even the message cannot be written, the status still tells.
+                let _ = writeln!(io::stderr(), "{}: {message}", self.name);
                 ExitCode::from(2)
             }
         }
