@@ -61,7 +61,8 @@ total 80; 3 members, 2 links; prices are in hundredths of a cent
 link 1-2 is full: member 1 sells 2, would sell 3; member 3 buys 2, would buy 3;
     the total would be 120
 
-member  trade    value  link  carries      load, in percent of the lease
+Each member with the link that leads to it from member 1. A load is in percent of the lease.
+member  trade    value  link  carries      load
 1       sells 2   -100
 2       idle         0  1-2   2 of 2 to 2  [####################]  100.0 % full
 `- 3    buys 2     180  2-3   2 of 3 to 3  [#############.......]   66.6 %
@@ -75,7 +76,8 @@ fn branches_stand_beside_their_member() {
 total 40; 3 members, 2 links; prices are in hundredths of a cent
 link 1-3 is full, but alone it holds nobody back
 
-member  trade    value  link  carries      load, in percent of the lease
+Each member with the link that leads to it from member 1. A load is in percent of the lease.
+member  trade    value  link  carries      load
 1       buys 1      50
 +- 2    idle         0  1-2   0 of 1       [....................]    0.0 %
 `- 3    sells 1    -10  1-3   1 of 1 to 1  [####################]  100.0 % full
@@ -89,7 +91,8 @@ fn a_closed_link_has_no_percent() {
 total 0; 2 members, 1 link; prices are in hundredths of a cent
 link 1-2 is closed, but alone it holds nobody back
 
-member  trade  value  link  carries  load, in percent of the lease
+Each member with the link that leads to it from member 1. A load is in percent of the lease.
+member  trade  value  link  carries  load
 1       idle       0
 `- 2    idle       0  1-2   0 of 0   [--------------------]  closed
 ";
@@ -102,7 +105,8 @@ fn a_feeder_without_full_links_says_so() {
 total -40; 1 member, 0 links; prices are in hundredths of a cent
 no link is full
 
-member  trade  value  link  carries  load, in percent of the lease
+Each member with the link that leads to it from member 1. A load is in percent of the lease.
+member  trade  value  link  carries  load
 1       idle     -40
 ";
     assert_eq!(drawn("E"), expected);

@@ -91,11 +91,13 @@ pub fn total(text: &str) -> i64 {
     number(said.split(';').next().expect("a number"))
 }
 
-/// The lines of the members, below the header.
+/// The lines of the members, below the caption and the header.
 pub fn rows_of_text(text: &str) -> impl Iterator<Item = &str> {
     let (_, table) = text.split_once("\n\n").expect("a table");
-    assert!(table.starts_with("member  "), "{table}");
-    table.lines().skip(1)
+    let mut lines = table.lines().skip(1);
+    let header = lines.next().expect("a header");
+    assert!(header.starts_with("member  "), "{table}");
+    lines
 }
 
 fn without_tree(row: &str) -> &str {

@@ -39,6 +39,7 @@ fn lines(report: &Report, colour: bool) -> Vec<String> {
         lines.extend(wrapped(&clauses));
     }
     lines.push(String::new());
+    lines.push(words::CAPTION.to_string());
     lines.extend(tree(report, colour));
     lines
 }
@@ -63,7 +64,7 @@ fn wrapped(clauses: &[String]) -> Vec<String> {
 fn tree(report: &Report, colour: bool) -> Vec<String> {
     let header = ["member", "trade", "value", "link", "carries"].map(String::from);
     let mut cells = vec![header];
-    let mut loads = vec!["load, in percent of the lease".to_string()];
+    let mut loads = vec!["load".to_string()];
     for row in &report.rows {
         cells.push(row_cells(row));
         loads.push(row.link.map_or(String::new(), |link| load(&link, colour)));

@@ -3,7 +3,7 @@
 
 use crate::report::Report;
 use crate::tree::Row;
-use crate::words;
+use crate::words::{self, CAPTION};
 use clearing::{LinkFlow, Refusal, CLOSED, FULL};
 
 const STYLE: &str = include_str!("page.css");
@@ -66,7 +66,7 @@ fn cleared(report: &Report) -> String {
 {holds}</ul>
 <h2>Members and links</h2>
 <table>
-<caption>Each member with the link that leads to it from member 1. A load is in percent of the lease.</caption>
+<caption>{CAPTION}</caption>
 <thead>
 <tr><th scope="col">member</th><th scope="col">trade</th><th scope="col" class="value">value</th><th scope="col">link</th><th scope="col">carries</th><th scope="col">load</th></tr>
 </thead>

@@ -3,6 +3,10 @@
 use crate::report::{HeldBack, Hold, Report, Wider};
 use clearing::{LinkFlow, Units, CLOSED, FULL};
 
+/// What the table of members shows.
+pub const CAPTION: &str =
+    "Each member with the link that leads to it from member 1. A load is in percent of the lease.";
+
 /// The total and the size of a feeder.
 pub fn summary(report: &Report) -> String {
     let (total, members) = (grouped(report.total.0), report.rows.len());

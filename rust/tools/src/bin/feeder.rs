@@ -14,11 +14,12 @@ bin/feeder [--page] [FILE]    clears a market and shows its members and the load
 
     --page    writes one HTML page for a browser or for paper, in place of text
 
-FILE is standard input where it is - or missing. A load is in percent of the link's own capacity,
-which is what the cooperative leases of the cable. For each link that is full or closed, the market
-is cleared once more with 40 units on that link alone, the most that a link can have: a member is
-held back where it would trade more, or something else. Prices are in hundredths of a cent. Text to
-a terminal is in colour, unless NO_COLOR is set.
+FILE holds a market's bytes (those of a text are made by bin/market bytes); it is standard input
+where it is - or missing. A load is in percent of the link's own capacity, which is what the
+cooperative leases of the cable. For each link that is full or closed, the market is cleared once
+more with 40 units on that link alone, the most that a link can have: a member is held back where
+it would trade more, or the other way. Prices are in hundredths of a cent. Text to a terminal is in
+colour, unless NO_COLOR is set.
 Exit status: 0 cleared; 1 refused, and the refusal is shown; 2 not done, and a message on standard
 error.
 ";

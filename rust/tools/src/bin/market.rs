@@ -14,7 +14,8 @@ bin/market bytes [FILE]    writes the bytes of such lines
     bytes XX XX ...           anything else, in hexadecimal
 
 FILE is standard input where it is - or missing. Blank lines, and what follows a #, are passed over.
-A line that cannot be read is named with its number, and nothing is written.
+A line that cannot be read is named with its number, and nothing is written. Record k of a refusal
+is line k + 1 of the file's text.
 Exit status: 0 done; 2 not done, and a message on standard error.
 ";
 
