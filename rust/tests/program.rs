@@ -146,12 +146,27 @@ fn script_path() -> PathBuf {
     root().join("bin/clear")
 }
 
-/// The script with a word of the shell's on its streams, as `<&-`, which closes standard input.
-fn script_with(stream: &str) -> Command {
+/// A script with a word of the shell's on its streams, as `<&-`, which closes standard input.
+pub fn with_stream(stream: &str, script: PathBuf) -> Command {
     let mut command = Command::new("sh");
     let line = format!("exec \"$0\" \"$@\" {stream}");
-    command.args(["-c", &line]).arg(script_path());
+    command.args(["-c", &line]).arg(script);
     command
+}
+
+fn script_with(stream: &str) -> Command {
+    with_stream(stream, script_path())
+}
+
+/// A standard input that has 8 bytes of a market of 24 and does not wait for more, and the other end,
+/// which has not ended.
+pub fn part_of_a_market() -> (OwnedFd, UnixStream) {
+    let (mut ours, theirs) = UnixStream::pair().expect("two sockets");
+    theirs.set_nonblocking(true).expect("it does not wait");
+    let market = committed("F");
+    assert_eq!(market.len(), 24);
+    ours.write_all(&market[..8]).expect("a part of it");
+    (OwnedFd::from(theirs), ours)
 }
 
 fn example(name: &str) -> PathBuf {
@@ -253,14 +268,9 @@ fn a_closed_standard_input_does_not_matter_to_a_file() {
 
 #[test]
 fn a_market_that_is_not_there_whole_has_no_answer() {
-    let (mut ours, theirs) = UnixStream::pair().expect("two sockets");
-    theirs.set_nonblocking(true).expect("it does not wait");
-    let market = committed("F");
-    assert_eq!(market.len(), 24);
-    ours.write_all(&market[..8]).expect("a part of it");
-    let output = output(script().stdin(OwnedFd::from(theirs)));
+    let (part, _rest) = part_of_a_market();
+    let output = output(script().stdin(part));
     assert_no_answer(&output, "read");
-    drop(ours);
 }
 
 #[test]

@@ -1,11 +1,8 @@
 //! `bin/market` and `bin/feeder` as an operator runs them: what they write and how they end.
 
 use crate::examples::committed;
-use crate::program::{output, printed, root, run, said};
+use crate::program::{output, part_of_a_market, printed, root, run, said, with_stream};
 use std::fs::File;
-use std::io::Write;
-use std::os::fd::OwnedFd;
-use std::os::unix::net::UnixStream;
 use std::path::PathBuf;
 use std::process::{Command, Output};
 
@@ -69,13 +66,8 @@ fn a_tool_that_cannot_read_or_write_says_so() {
     }
 }
 
-/// A tool with a word of the shell's on its streams, as `<&-`, which closes standard input.
 fn tool_with(stream: &str, name: &str, words: &[&str]) -> Command {
-    let mut command = Command::new("sh");
-    let line = format!("exec \"$0\" \"$@\" {stream}");
-    command
-        .args(["-c", &line])
-        .arg(root().join("bin").join(name));
+    let mut command = with_stream(stream, root().join("bin").join(name));
     command.args(words).current_dir(root().join("examples"));
     command
 }
@@ -101,12 +93,9 @@ fn a_closed_stream_is_no_market_and_no_answer() {
 #[test]
 fn a_market_that_is_not_there_whole_is_none() {
     for (name, words) in [("market", &["text"][..]), ("feeder", &["-"])] {
-        let (mut ours, theirs) = UnixStream::pair().expect("two sockets");
-        theirs.set_nonblocking(true).expect("it does not wait");
-        ours.write_all(&committed("F")[..8]).expect("a part of it");
-        let output = output(tool(name, words).stdin(OwnedFd::from(theirs)));
+        let (part, _rest) = part_of_a_market();
+        let output = output(tool(name, words).stdin(part));
         assert_failed(&output, &format!("{name}: cannot read standard input: "));
-        drop(ours);
     }
 }
 
