@@ -33,69 +33,85 @@ note_kit() {
         say "found $found; the project was proved with $wanted: what passes here is proved by the kit found"
 }
 
-# Prints why FILE, called NAME, has to be built, or nothing where it is up to date: it is there, and MARK, the time of its
-# last build that ended well, is not older than anything it is made of.
-reason() { # FILE NAME MARK
+# What the library is made of, and what the Rust programs are made of beside it.
+library='KIT crates.txt crates'
+rust='rust/Cargo.toml rust/Cargo.lock rust/build.rs rust/src rust/tools'
+
+# The mark of a file: the time of its last build that ended well.
+mark() { # FILE
+    echo "target/built-${1##*/}"
+}
+
+# Prints why FILE, called NAME, has to be built, or nothing where it is up to date: it is there, and nothing that it is made
+# of is newer than its mark. In the checkout.
+reason() { # FILE NAME SOURCES
     if [ ! -f "$1" ]; then
         echo "$2 is missing"
-    elif [ ! -f "$3" ]; then
+    elif [ ! -f "$(mark "$1")" ]; then
         echo "$2 is not known to be up to date"
     else
-        newer=$(find "$root/KIT" "$root/crates.txt" "$root/crates" -newer "$3" | head -n 1)
-        [ -z "$newer" ] || echo "${newer#"$root"/} is newer than $2"
+        # shellcheck disable=SC2086
+        newer=$(find $3 -newer "$(mark "$1")") || fail "what $2 is made of cannot be read"
+        [ -z "$newer" ] || echo "$(echo "$newer" | head -n 1) is newer than $2"
     fi
 }
 
-# Builds FILE, called NAME, by `rt VERB CRATE`, in the checkout and under its lock.
-build() { # FILE NAME MARK VERB CRATE
-    # rt builds no crate again that has its stamp, not even where what it built is gone.
-    [ -f "$1" ] || rm -f "target/stamp/$5"
-    rm -f "$3"
+# Builds FILE, called NAME, by BUILDER, in the checkout and under its lock.
+build() { # FILE NAME BUILDER
+    rm -f "$(mark "$1")"
     touch target/lock
-    rt "$4" "$5" || fail "$2 could not be built"
-    [ -f "$1" ] || fail "$2 could not be built: rt $4 $5 ended well, and made none"
+    "$3" || fail "$2 could not be built"
+    [ -f "$1" ] || fail "$2 could not be built: what builds it ended well, and made none"
     # The time of the build's start: a source edited since is newer, one only touched before is not.
-    touch -r target/lock "$1" "$3"
+    touch -r target/lock "$1" "$(mark "$1")"
     say 'built'
 }
 
-# Builds FILE, called NAME, where that is needed. One build at a time: whoever waited for another looks again.
-up_to_date() { # FILE NAME VERB CRATE
-    mark=$root/target/built-$4
-    if [ ! -f "$root/crates.txt" ] || [ ! -d "$root/crates" ]; then
-        fail "$root has no crates.txt and crates/: $2 is built in a checkout"
-    fi
-    why=$(reason "$1" "$2" "$mark")
-    [ -n "$why" ] || return 0
-    command -v rt >/dev/null || fail "$why, and rt, which builds it, was not found"
+# Builds FILE, called NAME, by BUILDER, which calls COMMAND, where that is needed. One build at a time: whoever waited for
+# another looks again.
+up_to_date() { # FILE NAME SOURCES COMMAND BUILDER
     (
-        cd -- "$root" && mkdir -p target && { command exec 9>>target/lock; } 2>/dev/null ||
+        cd -- "$root" || exit 2
+        why=$(reason "$1" "$2" "$3") || exit 2
+        [ -n "$why" ] || exit 0
+        command -v "$4" >/dev/null || fail "$why, and $4, which builds it, was not found"
+        { mkdir -p target && command exec 9>>target/lock; } 2>/dev/null ||
             fail "$why, and $root/target cannot be written"
         flock -n 9 || {
             say 'waiting for another build'
             flock 9 || fail 'target/lock cannot be locked'
         }
-        why=$(reason "$1" "$2" "$mark")
+        why=$(reason "$1" "$2" "$3") || exit 2
         [ -n "$why" ] || exit 0
-        note_kit
+        [ "$4" != rt ] || note_kit
         say "building: $why"
-        build "$1" "$2" "$mark" "$3" "$4"
+        build "$1" "$2" "$5"
     ) </dev/null >&2 || exit 2
 }
 
-# Becomes the Rust program named by `tool`, which cargo builds in the checkout. It is linked with this checkout's archive,
-# unless CLEARING_ARCHIVE names the folder of another.
+build_clear() {
+    # rt builds no crate again that has its stamp, not even where what it built is gone.
+    [ -f target/bin/clear ] || rm -f target/stamp/clear
+    rt check clear
+}
+
+build_archive() {
+    rt staticlib entry
+}
+
+build_rust_tool() {
+    "$cargo" build --quiet --release --offline --manifest-path rust/Cargo.toml --package clearing-tools --bin "$tool"
+}
+
+# Becomes the Rust program named by `tool`, which is linked with this checkout's archive and no other.
 run_rust_tool() { # ARGUMENTS
-    [ -n "${CLEARING_ARCHIVE-}" ] || up_to_date "$root/target/staticlib/libentry.a" 'the archive' staticlib entry
+    unset CLEARING_ARCHIVE
+    export CARGO_TARGET_DIR="$root/target/cargo"
     cargo=${CARGO:-cargo}
-    command -v "$cargo" >/dev/null || fail "$cargo, which builds the program, was not found"
-    built=$root/target/cargo
-    program=$built/${CARGO_BUILD_TARGET:+$CARGO_BUILD_TARGET/}release/$tool
-    [ -f "$program" ] || say 'building: the program is missing'
-    (
-        cd -- "$root/rust" &&
-            CARGO_TARGET_DIR=$built "$cargo" build --quiet --release --offline --package clearing-tools --bin "$tool"
-    ) </dev/null >&2 || fail 'the program could not be built'
-    [ -f "$program" ] || fail "the program could not be built: cargo ended well, and made no $program"
-    exec "$program" "$@"
+    program=target/cargo/${CARGO_BUILD_TARGET:+$CARGO_BUILD_TARGET/}release/$tool
+    if [ -n "$(cd -- "$root" && reason "$program" 'the program' "$library $rust")" ]; then
+        up_to_date target/staticlib/libentry.a 'the archive' "$library" rt build_archive
+    fi
+    up_to_date "$program" 'the program' "$library $rust" "$cargo" build_rust_tool
+    exec "$root/$program" "$@"
 }

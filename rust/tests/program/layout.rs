@@ -12,8 +12,17 @@ use std::process::{Command, Output, Stdio};
 const PROGRAM: &str = "target/bin/clear";
 const PROGRAM_BUILT: &str = "target/built-clear";
 const ARCHIVE: &str = "target/staticlib/libentry.a";
-const ARCHIVE_BUILT: &str = "target/built-entry";
+const ARCHIVE_BUILT: &str = "target/built-libentry.a";
 const SOURCE: &str = "crates/x/src/lib.rt";
+
+/// The sources of the Rust programs beside the library's.
+const RUST: [&str; 5] = [
+    "rust/Cargo.toml",
+    "rust/Cargo.lock",
+    "rust/build.rs",
+    "rust/src/lib.rs",
+    "rust/tools/src/lib.rs",
+];
 
 /// What the scripts and the test's own programs call.
 const COMMANDS: [&str; 12] = [
@@ -49,16 +58,13 @@ impl Layout {
             let link = layout.0.room_for(&format!("tools/{command}"));
             symlink(found(command), link).expect("a link");
         }
-        layout.0.write(SOURCE, "");
-        layout.0.write("crates.txt", "");
-        for source in [
-            "KIT",
-            "crates.txt",
-            "crates",
-            "crates/x",
-            "crates/x/src",
-            SOURCE,
-        ] {
+        for file in [SOURCE, "crates.txt"].iter().chain(&RUST) {
+            layout.0.write(file, "");
+        }
+        let folders = ["crates", "crates/x", "crates/x/src"];
+        let rust_folders = ["rust/src", "rust/tools", "rust/tools/src"];
+        let files = ["KIT", "crates.txt", SOURCE];
+        for source in [&folders[..], &rust_folders, &files, &RUST].concat() {
             age(&layout.path(source), 200);
         }
         layout.executable(PROGRAM, &cleared("old"));
@@ -101,15 +107,18 @@ impl Layout {
 
     /// A cargo that keeps a list of its calls and makes the given program, whatever it is to be called.
     fn cargo(&self, program: &str) {
-        self.0.write("rust/Cargo.toml", "");
         self.0.write("made", format!("#!/bin/sh\n{program}\n"));
         let make = "
-            echo \"$PWD $*\" >>../builds
+            echo \"$* ${CLEARING_ARCHIVE-}\" >>builds
             mkdir -p \"$CARGO_TARGET_DIR/release\"
             for last; do :; done
-            cat ../made >\"$CARGO_TARGET_DIR/release/$last\"
+            cat made >\"$CARGO_TARGET_DIR/release/$last\"
             chmod +x \"$CARGO_TARGET_DIR/release/$last\"";
         self.executable("tools/cargo", make);
+    }
+
+    fn builds(&self) -> String {
+        fs::read_to_string(self.path("builds")).unwrap_or_default()
     }
 
     fn remove(&self, name: &str) {
@@ -120,12 +129,7 @@ impl Layout {
         let mut command = Command::new(self.path("bin").join(script));
         command.current_dir(env::temp_dir());
         command.env("PATH", self.path("tools"));
-        for variable in [
-            "CARGO",
-            "CARGO_TARGET_DIR",
-            "CARGO_BUILD_TARGET",
-            "CLEARING_ARCHIVE",
-        ] {
+        for variable in ["CARGO", "CARGO_TARGET_DIR", "CARGO_BUILD_TARGET"] {
             command.env_remove(variable);
         }
         command
@@ -272,6 +276,17 @@ fn an_old_program_is_not_run_without_the_kit() {
 }
 
 #[test]
+fn a_program_whose_sources_are_gone_is_not_run() {
+    let layout = Layout::new("sourceless");
+    fs::remove_dir_all(layout.path("crates")).expect("they are there");
+    let message = layout.clears_nothing();
+    assert!(
+        message.ends_with("clear: what the program is made of cannot be read\n"),
+        "{message}"
+    );
+}
+
+#[test]
 fn another_kit_is_named_when_it_builds() {
     let layout = Layout::new("kits");
     let pinned = fs::read_to_string(layout.path("KIT")).expect("KIT is there");
@@ -337,25 +352,52 @@ fn the_programs_digit_is_the_status() {
     }
 }
 
+/// What a Rust tool says, and that it ends well.
+fn said_by(command: &mut Command) -> String {
+    let output = output(command);
+    assert_answer(&output, 0, "");
+    said(&output).to_string()
+}
+
 #[test]
 fn a_rust_tool_hands_on_its_words_and_its_status() {
     let layout = Layout::new("tools");
     layout.archive();
     layout.cargo("echo \"${0##*/} $PWD $*\"; exit 1");
-    let words = "build --quiet --release --offline --package clearing-tools --bin";
+    let here = env::temp_dir().canonicalize().expect("a folder");
     for tool in ["market", "feeder"] {
-        let here = env::temp_dir().canonicalize().expect("a folder");
-        let output = output(layout.command(tool).args(["--help", "a  b"]));
         let line = format!("{tool} {} --help a  b\n", here.display());
+        let output = output(layout.command(tool).args(["--help", "a  b"]));
         assert_answer(&output, 1, &line);
-        let message = format!("{tool}: building: the program is missing\n");
-        assert_eq!(said(&output), message);
-        let builds = fs::read_to_string(layout.path("builds")).expect("it was built");
-        let folder = layout.path("rust").canonicalize().expect("a folder");
-        let call = format!("{} {words} {tool}\n", folder.display());
-        assert!(builds.ends_with(&call), "{builds}");
     }
     assert_eq!(layout.calls(), "");
+}
+
+#[test]
+fn a_rust_tool_is_built_where_a_source_is_newer_and_needs_nothing_else() {
+    for source in ["KIT", SOURCE, "rust/tools/src/lib.rs", "rust/Cargo.lock"] {
+        let layout = Layout::new("tool sources");
+        layout.archive();
+        layout.cargo("true");
+        layout.kit(&format!("echo >{ARCHIVE}"));
+        let building = "market: building: the program is missing\nmarket: built\n";
+        let mut market = layout.command("market");
+        assert_eq!(said_by(market.env("CLEARING_ARCHIVE", "/else")), building);
+        let build = "build --quiet --release --offline --manifest-path rust/Cargo.toml --package clearing-tools --bin market \n";
+        assert_eq!(layout.builds(), build);
+        for mark in ["target/built-market", ARCHIVE_BUILT] {
+            age(&layout.path(mark), 100);
+        }
+        age(&layout.path(source), 50);
+        let message = said_by(&mut layout.command("market"));
+        let reason = format!("market: building: {source} is newer than the program\n");
+        assert!(message.contains(&reason), "{message}");
+        assert_eq!(layout.builds(), [build, build].concat());
+        for gone in ["tools/cargo", "tools/rt"] {
+            layout.remove(gone);
+        }
+        assert_eq!(said_by(&mut layout.command("market")), "");
+    }
 }
 
 #[test]
@@ -363,32 +405,32 @@ fn a_rust_tool_has_a_new_archive() {
     let layout = Layout::new("archive");
     layout.cargo("true");
     layout.kit(&format!("mkdir -p target/staticlib; echo >{ARCHIVE}"));
-    let message = output(&mut layout.command("market"));
-    assert!(said(&message).contains("market: building: the archive is missing"));
-    age(&layout.path(ARCHIVE_BUILT), 300);
-    let message = output(&mut layout.command("market"));
-    assert!(said(&message).contains("is newer than the archive"));
-    let message = output(&mut layout.command("market"));
-    assert_eq!(said(&message), "");
+    let message = said_by(&mut layout.command("market"));
+    assert!(message.starts_with("market: building: the archive is missing\nmarket: built\n"));
+    for mark in ["target/built-market", ARCHIVE_BUILT] {
+        age(&layout.path(mark), 300);
+    }
+    let message = said_by(&mut layout.command("market"));
+    assert!(
+        message.contains(" is newer than the archive\n"),
+        "{message}"
+    );
+    assert_eq!(said_by(&mut layout.command("market")), "");
     assert_eq!(layout.calls(), "staticlib entry\nstaticlib entry\n");
-    layout.remove(ARCHIVE);
-    let named = output(layout.command("market").env("CLEARING_ARCHIVE", "/else"));
-    assert_eq!(said(&named), "");
 }
 
 #[test]
 fn a_rust_tool_that_cannot_be_built_is_not_run() {
     let layout = Layout::new("toolless");
     layout.archive();
-    layout.0.write("rust/Cargo.toml", "");
     let missing = output(&mut layout.command("market"));
-    assert!(said(&missing).starts_with("market: cargo, which builds"));
+    assert!(said(&missing).ends_with("and cargo, which builds it, was not found\n"));
     layout.executable("tools/cargo", "echo \"$1\"; exit 101");
     let failing = output(&mut layout.command("market"));
     assert!(said(&failing).ends_with("market: the program could not be built\n"));
     layout.executable("tools/cargo", "true");
     let empty = output(&mut layout.command("market"));
-    assert!(said(&empty).contains("cargo ended well, and made no "));
+    assert!(said(&empty).ends_with("ended well, and made none\n"));
     layout.kit("exit 1");
     layout.remove(ARCHIVE);
     let unproved = output(&mut layout.command("market"));
