@@ -6,6 +6,7 @@ use lib.ListN.{getD}
 use Rattle.numbers.specs.declared.Member.{Member}
 use Rattle.numbers.specs.declared.Units.{Units}
 use Rattle.numbers.specs.declared.Price.{Price}
+use Rattle.numbers.specs.declared.Slope.{Slope}
 
 abbrev pub member : ℕ → Member
 member j = record { 0 = j }
@@ -15,6 +16,9 @@ units z = record { 0 = z }
 
 abbrev pub price : ℤ → Price
 price z = record { 0 = z }
+
+abbrev pub slope : ℤ → Slope
+slope z = record { 0 = z }
 
 abbrev pub memberIn : List Member → ℕ → ℕ
 memberIn js i = getD js i (member 0) .0

@@ -1,17 +1,26 @@
 -- What each case of the enums holds, in the numbers and values of docs/RULES.md.
 use mathlib.Core.Option.{Option, none, some}
 use lib.IntN.{pos}
+use Rattle.numbers.specs.inner.Held.{member, units, price, slope}
+use Rattle.problem.specs.Problem as P
+use Rattle.records.specs.declared.Terms.{Terms}
+use Rattle.records.specs.declared.Terms.the-variants as Terms
 use Rattle.records.specs.declared.Reading.{Reading}
 use Rattle.records.specs.declared.Reading.the-variants as Reading
 use Rattle.records.specs.declared.Verdict.{Verdict}
 use Rattle.records.specs.declared.Verdict.the-variants as Verdict
 use Rattle.records.specs.Records.{Entry}
-use Rattle.records.specs.Records.Entry.{link, offer, fault}
+use Rattle.records.specs.Records.Entry.{link, offer, begins, fault}
 use Rattle.records.specs.Refusals.{Refusal}
 
+unfoldable pub termsOf : P.Terms → Terms
+termsOf (P.Terms.point x p) = Terms.Point (units x) (price p)
+termsOf (P.Terms.span l u a b) = Terms.Span (units l) (units u) (slope a) (price b)
+
 unfoldable pub readingOf : Entry → Reading
-readingOf (link l) = Reading.Link (record { 0 = l .a }) (record { 0 = l .b }) (record { 0 = pos (l .capacity) })
-readingOf (offer o) = Reading.Offer (record { 0 = o .member }) (record { 0 = o .units }) (record { 0 = o .price })
+readingOf (link l) = Reading.Link (member (l .a)) (member (l .b)) (units (pos (l .capacity)))
+readingOf (offer o) = Reading.Offer (member (o .member)) (termsOf (o .terms))
+readingOf (begins j) = Reading.Begins (member j)
 readingOf (fault k) = Reading.Fault k
 
 unfoldable pub verdictOf : Option Refusal → Verdict
