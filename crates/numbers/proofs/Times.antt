@@ -1,11 +1,15 @@
--- Products of signed numbers, for `omega` as in Signs: a positive factor multiplies both parts of a number. Assumes nothing.
+-- Products of signed numbers, for `omega` as in Signs: a positive factor multiplies both parts of a number, sizes multiply, and a
+-- product lies between two others. Assumes nothing.
 use mathlib.Core.Path.{_≡_, refl, sym, _∙_}
-use Prim.Native.Nat.{ℕ, suc, _+_, _*_}
-use native.Mathlib.Nat.{mul-add, mul-zero, mul-le-mul-left}
+use Prim.Native.Nat.{ℕ, zero, suc, _+_, _*_, _^_, _≤_}
+use native.Mathlib.Nat.{mul-add, mul-zero, mul-le-mul, mul-le-mul-left}
 use native.Mathlib.Omega.{arith}
-use lib.IntN.{ℤ, pos, negsuc, negℤ, _*ℤ_, negℤ-negℤ}
-use lib.Signed.{_≤ℤ_}
-use Rattle.numbers.proofs.Signs.{up, dn, up-neg, dn-neg, le-to, le-from}
+use lib.IntN.{ℤ, pos, negsuc, negℤ, natAbs, _+ℤ_, _*ℤ_, negℤ-negℤ}
+use lib.Signed.{_≤ℤ_, natAbs-le}
+use mir.Syntax.{Width, w16, w32, w64}
+use mir.Val.{SFits, hbits}
+use Rattle.numbers.proofs.Signs.{up, dn, added, up-neg, dn-neg, le-to, le-from}
+use Rattle.numbers.proofs.Complement.{sfits-from, sfits-to}
 
 -- ---- a positive factor
 
@@ -31,7 +35,45 @@ times-le n {x} {y} h =
       mul-add n (dn x) (up y),
     ))
 
--- ---- laws of products
+-- ---- the size of a product, and what 64 bits hold
+
+abs-neg : (z : ℤ) → natAbs (negℤ z) ≡ natAbs z
+abs-neg (pos zero) = refl
+abs-neg (pos (suc n)) = refl
+abs-neg (negsuc n) = refl
+
+pub times-abs : (s x : ℤ) → natAbs (s *ℤ x) ≡ natAbs s * natAbs x
+times-abs (pos m) (pos n) = refl
+times-abs (pos m) (negsuc n) = abs-neg (pos (m * suc n))
+times-abs (negsuc m) (pos n) = abs-neg (pos (suc m * n))
+times-abs (negsuc m) (negsuc n) = refl
+
+abs-parts : (z : ℤ) → natAbs z ≡ up z + dn z
+abs-parts (pos n) = omega arith
+abs-parts (negsuc n) = omega arith
+
+abs-fits : {w : Width} {z : ℤ} → SFits w z → natAbs z ≤ 2 ^ hbits w
+abs-fits {z = z} f = natAbs-le z (f .sfits)
+
+-- 32 bits times 16
+product-small : {s x : ℤ} → SFits w32 s → SFits w16 x → natAbs (s *ℤ x) ≤ 2 ^ 46
+product-small {s} {x} f g = omega (arith, times-abs s x, mul-le-mul (abs-fits f) (abs-fits g))
+
+pub product-fits : {s x : ℤ} → SFits w32 s → SFits w16 x → SFits w64 (s *ℤ x)
+product-fits {s} {x} f g =
+    let h = product-small f g in
+    let p = abs-parts (s *ℤ x) in
+    sfits-from w64 (s *ℤ x) (omega arith) (omega arith)
+
+pub line-fits : {s x b : ℤ} → SFits w32 s → SFits w16 x → SFits w32 b → SFits w64 ((s *ℤ x) +ℤ b)
+line-fits {s} {x} {b} f g h =
+    let k = product-small f g in
+    let p = abs-parts (s *ℤ x) in
+    let t = added (s *ℤ x) b in
+    let l = sfits-to h in
+    sfits-from w64 ((s *ℤ x) +ℤ b) (omega arith) (omega arith)
+
+-- ---- order of products
 
 negative : (n : ℕ) (z : ℤ) → negsuc n *ℤ z ≡ negℤ (pos (suc n) *ℤ z)
 negative n (pos k) = refl
