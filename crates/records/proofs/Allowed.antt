@@ -1,14 +1,15 @@
 -- A refusal that is given is one that the table allows: its number is not 8, and its place has 16 bits, so that the number returned
--- tells both. Here of refusals 1 to 4, and of any that are tried one after the other. Assumes nothing.
+-- tells both. Here of refusals 1 to 4, 13 and 14, and of any that are tried one after the other. Assumes nothing.
 use mathlib.Core.Path.{_≡_, refl, subst}
 use mathlib.Core.Bool.{Bool, true, false}
 use mathlib.Core.List.{List, _∷_}
+use mathlib.Core.Logic.{inl, inr}
 use mathlib.Core.Option.{Option, none, some, Option·none-ne-some, Option·some-injective}
 use Prim.Native.Nat.{ℕ, zero, suc, _+_, _/_, _≤_, _<_}
 use native.Mathlib.Omega.{arith}
 use lib.ListN.{length}
 use Rattle.records.specs.Records.{Entry, entryAt, entriesFrom, entries}
-use Rattle.records.specs.Records.Entry.{link, offer, fault}
+use Rattle.records.specs.Records.Entry.{link, offer, begins, fault}
 use Rattle.records.specs.Refusals.{Refusal, refusal, _otherwise_, placeIf, tooLong, notWhole, faulty, unsound}
 use Rattle.records.proofs.Entries.{Fits, entry-fits, short-file}
 
@@ -45,13 +46,20 @@ unfolding _otherwise_
 first-allowed none h a b r e = b refl r e
 first-allowed (some x) h a b r e = a r e
 
--- ---- refusals 1 to 4
+-- ---- refusals 1 to 4, 13 and 14
 
 faulty-one : (i : ℕ) (e : Entry) (es : List Entry) → Fits e → i < 65536 → IfAllowed (faulty (suc i) es) → IfAllowed (faulty i (e ∷ es))
 unfolding faulty
 faulty-one i (link l) es h b t = t
 faulty-one i (offer o) es h b t = t
-faulty-one i (fault k) es h b t = this-allowed (λ e. omega (arith, h, e)) b
+faulty-one i (begins j) es h b t = t
+faulty-one i (fault k) es h b t = this-allowed (not-8 h) b
+  where
+    not-8 : Fits (fault k) → k ≡ 8 → ⊥
+    not-8 (inl e) q = omega arith
+    not-8 (inr (inl e)) q = omega arith
+    not-8 (inr (inr (inl e))) q = omega arith
+    not-8 (inr (inr (inr e))) q = omega arith
 
 faulty-allowed : (f : List ℕ) (i n : ℕ) → i + n ≤ 65536 → IfAllowed (faulty i (entriesFrom f i n))
 unfolding entriesFrom faulty
