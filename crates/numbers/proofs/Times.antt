@@ -1,14 +1,14 @@
 -- Products of signed numbers, for `omega` as in Signs: a positive factor multiplies both parts of a number, sizes multiply, and a
 -- product lies between two others. Assumes nothing.
-use mathlib.Core.Path.{_≡_, refl, sym, _∙_}
-use Prim.Native.Nat.{ℕ, zero, suc, _+_, _*_, _^_, _≤_}
+use mathlib.Core.Path.{_≡_, refl, sym, ap, _∙_}
+use Prim.Native.Nat.{ℕ, zero, suc, _+_, _*_, _^_, _≤_, _<_}
 use native.Mathlib.Nat.{mul-add, mul-zero, mul-le-mul, mul-le-mul-left}
 use native.Mathlib.Omega.{arith}
-use lib.IntN.{ℤ, pos, negsuc, negℤ, natAbs, _+ℤ_, _*ℤ_, negℤ-negℤ}
+use lib.IntN.{ℤ, pos, negsuc, negℤ, predℤ, natAbs, _+ℤ_, _-ℤ_, _*ℤ_, negℤ-negℤ, predℤ-*ℤ, *ℤ-comm}
 use lib.Signed.{_≤ℤ_, natAbs-le}
 use mir.Syntax.{Width, w16, w32, w64}
 use mir.Val.{SFits, hbits}
-use Rattle.numbers.proofs.Signs.{up, dn, added, up-neg, dn-neg, le-to, le-from}
+use Rattle.numbers.proofs.Signs.{up, dn, added, taken, equal, up-neg, dn-neg, le-to, le-from}
 use Rattle.numbers.proofs.Complement.{sfits-from, sfits-to}
 
 -- ---- a positive factor
@@ -48,7 +48,7 @@ times-abs (pos m) (negsuc n) = abs-neg (pos (m * suc n))
 times-abs (negsuc m) (pos n) = abs-neg (pos (suc m * n))
 times-abs (negsuc m) (negsuc n) = refl
 
-abs-parts : (z : ℤ) → natAbs z ≡ up z + dn z
+pub abs-parts : (z : ℤ) → natAbs z ≡ up z + dn z
 abs-parts (pos n) = omega arith
 abs-parts (negsuc n) = omega arith
 
@@ -72,6 +72,13 @@ line-fits {s} {x} {b} f g h =
     let t = added (s *ℤ x) b in
     let l = sfits-to h in
     sfits-from w64 ((s *ℤ x) +ℤ b) (omega arith) (omega arith)
+
+pub less-fits : (z : ℤ) {s : ℤ} → natAbs z < 2 ^ 62 → SFits w32 s → SFits w64 (z -ℤ s)
+less-fits z {s} h f =
+    let p = abs-parts z in
+    let t = taken z s in
+    let l = sfits-to f in
+    sfits-from w64 (z -ℤ s) (omega arith) (omega arith)
 
 -- ---- order of products
 
@@ -98,3 +105,12 @@ times-between (negsuc n) l x h a b P between p q =
           up-neg (pos (suc n) *ℤ u),
           dn-neg (pos (suc n) *ℤ u),
         )))
+
+-- ---- one less of the other factor
+pred-is : (z : ℤ) → z -ℤ pos 1 ≡ predℤ z
+pred-is (pos zero) = refl
+pred-is (pos (suc n)) = equal (pos (suc n) -ℤ pos 1) (pos n) (omega (arith, taken (pos (suc n)) (pos 1)))
+pred-is (negsuc n) = equal (negsuc n -ℤ pos 1) (negsuc (suc n)) (omega (arith, taken (negsuc n) (pos 1)))
+
+pub times-less : (s z : ℤ) → s *ℤ (z -ℤ pos 1) ≡ (s *ℤ z) -ℤ s
+times-less s z = ap (λ (k : ℤ). s *ℤ k) (pred-is z) ∙ *ℤ-comm s (predℤ z) ∙ predℤ-*ℤ z s ∙ ap (λ (k : ℤ). k -ℤ s) (*ℤ-comm z s)

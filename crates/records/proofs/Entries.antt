@@ -29,7 +29,7 @@ use Rattle.records.specs.declared.Reading.the-variants as Reading
 use Rattle.records.specs.Records.{Entry, byte, two, unitsAt, numberAt, isMember, isUnits, isPrice, linkOf, pointOf, unfinished, unbegun, badSpan, spanOf, linkAt, pointAt, beginAt, spanAt, entryAt, entriesFrom, entries}
 use Rattle.records.specs.Records.Entry.{link, offer, begins, fault}
 use Rattle.records.specs.Refusals.{Refusal, refusal, _otherwise_, placeIf, fileLimit, tooLong, faulty, unsound}
-use Rattle.records.specs.inner.Cases.{termsOf, readingOf}
+use Rattle.records.specs.inner.Cases.{termsOf, termsIn, readingOf}
 use Rattle.records.proofs.Reading.{the-type}
 
 -- ---- the records from i on, of n: record i and those from i + 1 on, or none
@@ -48,10 +48,6 @@ ended f i n h = rw (end) refl
     end = omega arith
 
 -- ---- what a reading says of its record
-unfoldable pub termsIn : Terms → P.Terms
-termsIn (Terms.Point x p) = P.Terms.point (x .0) (p .0)
-termsIn (Terms.Span l u a b) = P.Terms.span (l .0) (u .0) (a .0) (b .0)
-
 unfoldable recordOf : Reading → Entry
 recordOf (Reading.Link a b c) = link (record { a = a .0; b = b .0; capacity = natAbs (c .0) })
 recordOf (Reading.Offer j t) = offer (record { member = j .0; terms = termsIn t })

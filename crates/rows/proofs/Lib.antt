@@ -1,3 +1,4 @@
 pub mod Prices
 pub mod Gives
+pub mod Lines
 pub mod Turns

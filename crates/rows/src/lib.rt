@@ -2,26 +2,32 @@
 // higher cell is the better one. A member's table is read from the records as a row, and a message is taken into a row.
 // Prices become cells in `cell_of` and cells become prices in `total_of`, nowhere else.
 ghost use mathlib.Core.Path.{_≡_};
-ghost use mathlib.Core.Bool.{true, cond};
+ghost use mathlib.Core.Bool.{true};
 ghost use mathlib.Core.Option.{some};
 ghost use Prim.Native.Nat.{ℕ, _+_, _*_, _-_, _^_, _≤_, _<_, max};
+ghost use lib.Dec.{leb, ltb};
 ghost use lib.IntN.{ℤ, pos, negℤ, _-ℤ_};
 ghost use lib.ListN.{length, getD};
-ghost use Rattle.numbers.specs.Whole.{eqZ, within};
-ghost use Rattle.problem.specs.Problem.{value};
+ghost use lib.Signed.{leZ};
+ghost use Rattle.numbers.specs.Whole.{within};
+ghost use Rattle.problem.specs.Problem.{worth, value};
 ghost use Rattle.problem.proofs.Cell.{_⊕_};
 ghost use Rattle.problem.proofs.Max.{maxTo, argmax};
 ghost use Rattle.problem.proofs.Prices.{cellOf};
 ghost use Rattle.records.specs.Records.{entries};
 ghost use Rattle.records.specs.Market.{offersOf};
-ghost use Rattle.rows.specs.inner.Rows.{given, worthOf, meets, Combined};
+ghost use Rattle.records.specs.inner.Cases.{termsIn};
+ghost use Rattle.rows.specs.inner.Rows.{given, spanned, cellIn, Ranged, Offers, worthOf, meets, Combined};
+use numbers::Amount;
 use numbers::Member;
 use numbers::Price;
+use numbers::Slope;
 use numbers::Units;
 use records::Reading;
+use records::Terms;
 
 // The cell of a price.
-fn cell_of(p: Price) -> u32
+fn cell_of(p: Amount) -> u32
     requires { ⌜ within (negℤ (pos 1000000)) (pos 1000000) (p .0) ≡ true ⌝ }
     ensures { λ r. ⌜ r ≡ cellOf 1000000 (some (p .0)) ⌝ }
 {
@@ -38,33 +44,63 @@ pub fn total_of(best: u32, n: u8) -> Price
     Price((best - 1) as i32 - shift as i32)
 }
 
-// What a record offers a member: a cell for some units, and none for any others.
-struct Offered {
-    units: Units,
-    cell: u32,
+// A line of prices over each number of units from low to high: slope times units plus base.
+struct Span {
+    low: Units,
+    high: Units,
+    slope: Slope,
+    base: Price,
+}
+
+// An offer as a span: a point is a span of its own units alone, with slope 0.
+fn span_of(t: Terms) -> Span
+    ensures { λ r. ⌜ ((x : ℤ) → worth (termsIn t) x ≡ worth (spanned r) x) ⌝ }
+{
+    match t {
+        Terms::Point(units, price) => Span {
+            low: units,
+            high: units,
+            slope: Slope(0),
+            base: price,
+        },
+        Terms::Span(low, high, slope, base) => Span {
+            low,
+            high,
+            slope,
+            base,
+        },
+    }
+}
+
+// What a record offers a member.
+enum Offered {
+    Span(Span),
+    Nothing,
 }
 
 // What record i offers member j. A record of another member is not read any further.
 fn offer_at(records: &[u8], i: usize, j: Member) -> Offered
     requires { ⌜ 8 * i + 8 ≤ length (now records) ⌝ }
-    ensures { λ r. ⌜ ((x : ℤ) → given (now (records .entry)) i (j .0) x ≡ cond (eqZ x (r .units .0)) (r .cell) 0) ⌝ }
+    ensures { λ r. ⌜ Offers (given (now (records .entry)) i (j .0)) r ⌝ }
 {
     if records[8 * i + 1] != j.0 {
-        return Offered {
-            units: Units(0),
-            cell: 0,
-        };
+        return Offered::Nothing;
     }
-    let Reading::Offer(_, units, p) = records::read_at(records, i) else {
-        return Offered {
-            units: Units(0),
-            cell: 0,
-        };
+    let Reading::Offer(_, t) = records::read_at(records, i) else {
+        return Offered::Nothing;
     };
-    Offered {
-        units,
-        cell: cell_of(p),
+    Offered::Span(span_of(t))
+}
+
+// The cell that a span gives for x units.
+fn cell_in(s: Span, x: Units) -> u32
+    requires { ⌜ Ranged s ⌝ }
+    ensures { λ r. ⌜ r ≡ cellIn s (x .0) ⌝ }
+{
+    if !x.within(s.low, s.high) {
+        return 0;
     }
+    cell_of(s.slope.amount(x, s.base))
 }
 
 // The cell that record i gives member j for x units.
@@ -73,10 +109,10 @@ fn cell_at(records: &[u8], i: usize, j: Member, x: Units) -> u32
     ensures { λ r. ⌜ r ≡ given (now (records .entry)) i (j .0) (x .0) ⌝ }
 {
     let o = offer_at(records, i, j);
-    if !x.same(o.units) {
+    let Offered::Span(s) = o else {
         return 0;
-    }
-    o.cell
+    };
+    cell_in(s, x)
 }
 
 // The worth of some units to a member: the highest price that its table gives for them, or nothing.
@@ -125,27 +161,74 @@ fn place_of(top: Units, u: Units) -> i32
     zero - units
 }
 
-// Record i taken into member j's row, whose cell x is for top - x units: the cell that it is for becomes the higher of
-// what it holds and the offer's.
+// A cell of a row, and its units.
+struct Start {
+    place: usize,
+    units: Units,
+}
+
+// The first cell for at most `high` units, in a row whose cell 0 is for top units.
+fn start_at(top: Units, high: Units) -> Start
+    ensures { λ r. ⌜ (r .units .0 ≡ top .0 -ℤ pos (r .place)) × ((x : ℕ) → leZ (top .0 -ℤ pos x) (high .0) ≡ leb (r .place) x) ⌝ }
+{
+    if high.below(top) {
+        let place = place_of(top, high) as usize;
+        return Start { place, units: high };
+    }
+    Start {
+        place: 0,
+        units: top,
+    }
+}
+
+// How many of n cells are for at least `low` units, in a row whose cell 0 is for top units.
+fn cells_to(top: Units, low: Units, n: usize) -> usize
+    ensures { λ r. ⌜ (r ≤ n) × ((x : ℕ) → x < n → leZ (low .0) (top .0 -ℤ pos x) ≡ ltb x r) ⌝ }
+{
+    let last = place_of(top, low);
+    if last < 0 {
+        return 0;
+    }
+    let end = last as usize + 1;
+    if n < end {
+        return n;
+    }
+    end
+}
+
+// A span taken into a row whose cell x is for top - x units: each cell that it covers becomes the higher of what it holds and
+// what the span gives, which falls by the slope from cell to cell.
+fn put_span(s: Span, top: Units, row: &mut [u32])
+    requires { ⌜ Ranged s ⌝ }
+    ensures { λ _. ⌜ ((x : ℕ) → x < length (now (row .entry)) → getD (now (row .exit)) x 0 ≡ max (getD (now (row .entry)) x 0) (cellIn s (top .0 -ℤ pos x))) ⌝ }
+{
+    let start = start_at(top, s.high);
+    let end = cells_to(top, s.low, row.len());
+    let slope = s.slope;
+    let mut p = slope.amount(start.units, s.base);
+    let mut x = start.place;
+    while x < end {
+        let c = cell_of(p);
+        if row[x] < c {
+            row[x] = c;
+        }
+        let next = p.less(slope);
+        p = next;
+        x += 1;
+    }
+}
+
+// Record i taken into member j's row, whose cell x is for top - x units: each cell becomes the higher of what it holds and
+// what the record gives.
 fn put_record(records: &[u8], i: usize, j: Member, top: Units, row: &mut [u32])
     requires { ⌜ 8 * i + 8 ≤ length (now records) ⌝ }
     ensures { λ _. ⌜ ((x : ℕ) → x < length (now (row .entry)) → getD (now (row .exit)) x 0 ≡ max (getD (now (row .entry)) x 0) (given (now (records .entry)) i (j .0) (top .0 -ℤ pos x))) ⌝ }
 {
     let o = offer_at(records, i, j);
-    if o.cell == 0 {
+    let Offered::Span(s) = o else {
         return;
-    }
-    let at = place_of(top, o.units);
-    if at < 0 {
-        return;
-    }
-    let x = at as usize;
-    if row.len() <= x {
-        return;
-    }
-    if row[x] < o.cell {
-        row[x] = o.cell;
-    }
+    };
+    put_span(s, top, row);
 }
 
 // Member j's own row: cell x is what its table gives for top - x units.

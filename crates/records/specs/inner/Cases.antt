@@ -17,6 +17,11 @@ unfoldable pub termsOf : P.Terms → Terms
 termsOf (P.Terms.point x p) = Terms.Point (units x) (price p)
 termsOf (P.Terms.span l u a b) = Terms.Span (units l) (units u) (slope a) (price b)
 
+-- and back
+unfoldable pub termsIn : Terms → P.Terms
+termsIn (Terms.Point x p) = P.Terms.point (x .0) (p .0)
+termsIn (Terms.Span l u a b) = P.Terms.span (l .0) (u .0) (a .0) (b .0)
+
 unfoldable pub readingOf : Entry → Reading
 readingOf (link l) = Reading.Link (member (l .a)) (member (l .b)) (units (pos (l .capacity)))
 readingOf (offer o) = Reading.Offer (member (o .member)) (termsOf (o .terms))

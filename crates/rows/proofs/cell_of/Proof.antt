@@ -4,7 +4,7 @@ use mathlib.Core.Option.{some}
 use Prim.Native.Nat.{_≤_}
 use native.Mathlib.Omega.{arith}
 use lib.IntN.{pos, _+ℤ_}
-use mir.Syntax.{w32}
+use mir.Syntax.{w64}
 use mir.Val.{SFits, toZ, ofZ}
 use mir.Facts.{toZ-ofZ}
 use borrow.Author.Needs.{needs}
@@ -14,19 +14,19 @@ use Rattle.rows.proofs.Prices.{cell-is, cell-top}
 use Rattle.rows.proofs.cell_of.Statement.{statement}
 use Rattle.rows.proofs.cell_of.Tie as tie
 
-is : (c : tie.After-struct-told) → toZ w32 (ofZ w32 (c .before .args .p .0)) +ℤ pos 1000001 ≡ pos (cellOf 1000000 (some (c .before .args .p .0)))
+is : (c : tie.After-struct-told) → toZ w64 (ofZ w64 (c .before .args .p .0)) +ℤ pos 1000001 ≡ pos (cellOf 1000000 (some (c .before .args .p .0)))
 is c =
-    let f : SFits w32 (c .before .args .p .0) = search needs in
+    let f : SFits w64 (c .before .args .p .0) = search needs in
     rw (toZ-ofZ f) (cell-is 1000000 (c .before .args .p .0) (within-true _ _ _ (c .before .pre) .0))
 
 top : (c : tie.After-struct-told) → cellOf 1000000 (some (c .before .args .p .0)) ≤ 2000001
-top c = cell-top 1000000 1000000 (c .before .args .p .0) (within-true _ _ _ (c .before .pre) .1)
+top c = cell-top 1000000 (some (c .before .args .p .0)) (within-true _ _ _ (c .before .pre))
 
-fits : (c : tie.After-struct-told) → SFits w32 (pos (cellOf 1000000 (some (c .before .args .p .0))))
+fits : (c : tie.After-struct-told) → SFits w64 (pos (cellOf 1000000 (some (c .before .args .p .0))))
 fits c = record { sfits = omega (arith, top c) }
 
 add-result : tie.Need-add-result
-add-result c = subst (SFits w32) (sym (is c)) (fits c)
+add-result c = subst (SFits w64) (sym (is c)) (fits c)
 
 cast-result : tie.Need-cast-result
 cast-result c = rw (is c, toZ-ofZ (fits c)) (tt, record { fits = omega (arith, top c) })

@@ -7,7 +7,7 @@ use native.Mathlib.Omega.{arith}
 use lib.IntN.{pos, _-ℤ_}
 use lib.ListN.{length}
 use Rattle.problem.specs.Problem.{value}
-use Rattle.problem.proofs.Prices.{cellOf, value-low}
+use Rattle.problem.proofs.Prices.{cellOf, value-limited}
 use Rattle.records.specs.Records.{entries}
 use Rattle.records.specs.Market.{offersOf}
 use Rattle.rows.proofs.Prices.{none-back, price-back}
@@ -66,7 +66,7 @@ returns-2 c =
     let l = c .before .before in
     let a = l .before .before .before .args in
     let v = value (offersOf (entries (a .records .now))) (a .j .0) (a .x .0) in
-    price-back 1000000 v (c .total-of .result) (value-low 1000000 (offersOf (entries (a .records .now))) (priced (a .records .now)) (a .j .0) (a .x .0)) (omega (arith, best-is l, c .before .if2 .left))
+    price-back 1000000 v (c .total-of .result) (value-limited 1000000 (offersOf (entries (a .records .now))) (priced (a .records .now)) (a .j .0) (a .x .0)) (omega (arith, best-is l, c .before .if2 .left))
     (c .total-of .ensures ∙ ap (λ (k : ℕ). pos (k - 1) -ℤ pos 1000000) (best-is l))
 
 pub value-of-spec : {M : Type 1} → statement M

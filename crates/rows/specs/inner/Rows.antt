@@ -1,4 +1,4 @@
--- What one record gives a member, and a message taken into a row, cell by cell.
+-- What one record gives a member, what a span gives, and a message taken into a row, cell by cell.
 use mathlib.Core.Path.{_≡_}
 use mathlib.Core.List.{List, [], _∷_}
 use mathlib.Core.Option.{Option, none, some}
@@ -6,18 +6,38 @@ use Prim.Native.Nat.{ℕ, _+_, _-_, _<_, _≤_}
 use lib.ListN.{length, getD}
 use lib.IntN.{ℤ}
 use Rattle.numbers.specs.inner.Held.{price}
-use Rattle.problem.specs.Problem.{value}
+use Rattle.problem.specs.Problem.{Terms, worth, value}
 use Rattle.problem.proofs.Cell.{_⊕_}
 use Rattle.problem.proofs.Max.{maxTo, argmax}
-use Rattle.problem.proofs.Prices.{cellOf}
+use Rattle.problem.proofs.Prices.{cellOf, Limited}
 use Rattle.records.specs.Records.{entryAt}
 use Rattle.records.specs.Market.{offersOf}
+use Rattle.rows.specs.declared.Span.{Span}
+use Rattle.rows.specs.declared.Offered.{Offered}
+use Rattle.rows.specs.declared.Offered.the-variants as Offered
 use Rattle.rows.specs.declared.Worth.{Worth}
 use Rattle.rows.specs.declared.Worth.the-variants as Worth
 
 -- the cell that record i alone gives member j for x units
 unfoldable pub given : List ℕ → ℕ → ℕ → ℤ → ℕ
 given f i j x = cellOf 1000000 (value (offersOf (entryAt f i ∷ [])) j x)
+
+-- the terms that a span stands for
+abbrev pub spanned : Span → Terms
+spanned s = Terms.span (s .low .0) (s .high .0) (s .slope .0) (s .base .0)
+
+-- the cell that a span gives for x units
+unfoldable pub cellIn : Span → ℤ → ℕ
+cellIn s x = cellOf 1000000 (worth (spanned s) x)
+
+-- all that a span is worth is in a price's range
+abbrev pub Ranged : Span → Type 0
+Ranged s = (x : ℤ) → Limited 1000000 (worth (spanned s) x)
+
+-- what gives the cell g x for x units is this
+pub data Offers (g : ℤ → ℕ) : Offered → Type 0 where
+  span : {s : Span} → Ranged s → ((x : ℤ) → g x ≡ cellIn s x) → Offers g (Offered.Span s)
+  nothing : ((x : ℤ) → g x ≡ 0) → Offers g Offered.Nothing
 
 -- the worth that a table gives
 unfoldable pub worthOf : Option ℤ → Worth

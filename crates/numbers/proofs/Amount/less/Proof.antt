@@ -1,10 +1,9 @@
 -- `Amount::less` meets its contract: a slope of 32 bits is the same number in 64.
-use mathlib.Core.Path.{_≡_, sym, subst}
-use lib.IntN.{_-ℤ_}
 use mir.Syntax.{w32, w64}
-use mir.Val.{SFits, toZ, ofZ}
+use mir.Val.{SFits}
 use mir.Facts.{toZ-ofZ, sfits-widen}
 use borrow.Author.Needs.{needs}
+use Rattle.numbers.proofs.Times.{less-fits}
 use Rattle.numbers.proofs.Amount.less.Statement.{statement}
 use Rattle.numbers.proofs.Amount.less.Tie as tie
 
@@ -21,13 +20,13 @@ sub-t5 : tie.Need-sub-t5
 sub-t5 c =
     let z = self-fits (c .before .before) in
     let a = slope-fits c in
-    rw (toZ-ofZ z, toZ-ofZ a, toZ-ofZ (sfits-widen {w′ = w64} tt a)) (c .before .before .before .pre)
+    rw (toZ-ofZ z, toZ-ofZ a, toZ-ofZ (sfits-widen {w′ = w64} tt a)) (less-fits (c .before .before .before .args .self .0) (c .before .before .before .pre) a)
 
 returns : tie.Need-returns
 returns c =
     let z = self-fits (c .before .before) in
     let a = slope-fits c in
-    rw (toZ-ofZ z, toZ-ofZ a, toZ-ofZ (sfits-widen {w′ = w64} tt a)) (toZ-ofZ (c .before .before .before .pre))
+    rw (toZ-ofZ z, toZ-ofZ a, toZ-ofZ (sfits-widen {w′ = w64} tt a)) (toZ-ofZ (less-fits (c .before .before .before .args .self .0) (c .before .before .before .pre) a))
 
 pub less-spec : {M : Type 1} → statement M
 less-spec = tie.close (tie.spec cast-a sub-t5 returns)
