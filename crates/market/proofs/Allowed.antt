@@ -38,7 +38,7 @@ from9-allowed f h =
     (refusal-allowed 9 _ (λ q. omega (arith, q)) (record-placed closes f 0 (length f / 8) [] (omega arith)))
     (λ e9. refusal-allowed 10 _ (λ q. omega (arith, q)) (member-placed _ f))
 
--- refusals 1 to 10
+-- refusals 1 to 10, 13 and 14
 pub file-allowed : (f : List ℕ) → IfAllowed (fileRefusal f)
 unfolding fileRefusal noOffer without tooMany
 file-allowed f =

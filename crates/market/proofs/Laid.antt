@@ -1,5 +1,5 @@
 -- The feeder of a market on a tree is that market's, by the walk's positions; so is that of a file that passes refusals 1 to
--- 10. Assumes nothing.
+-- 10, 13 and 14. Assumes nothing.
 use mathlib.Core.Path.{_≡_, refl, sym, ap, ap₂, _∙_, subst}
 use mathlib.Core.Logic.{_⊎_, inl, inr}
 use mathlib.Core.Bool.{Bool, true, false, cond}

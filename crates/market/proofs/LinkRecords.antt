@@ -16,7 +16,7 @@ use Rattle.problem.proofs.Tree.{Within}
 use Rattle.records.specs.declared.Reading.{Reading}
 use Rattle.records.specs.declared.Reading.the-variants as Reading
 use Rattle.records.specs.Records.{Entry, entryAt, entriesFrom, entries}
-use Rattle.records.specs.Records.Entry.{link, offer, fault}
+use Rattle.records.specs.Records.Entry.{link, offer, begins, fault}
 use Rattle.records.specs.Market.{membersOf, linksOf}
 use Rattle.records.specs.inner.Cases.{readingOf}
 use Rattle.records.proofs.Reading.{the-type}
@@ -33,6 +33,7 @@ pub links-other : (e : Entry) (es : List Entry) → ((l : Link) → e ≡ link l
 unfolding linksOf
 links-other (link l) es h = absurd (h l refl)
 links-other (offer o) es h = refl
+links-other (begins j) es h = refl
 links-other (fault k) es h = refl
 
 pub links-all : (f : List ℕ) → linksOf (entries f) ≡ linksOf (entriesFrom f 0 (length f / 8 - 0))
@@ -44,7 +45,7 @@ unfolding linksOf
 links-none f i n h = ap linksOf (ended f i n h)
 
 module _ (f : List ℕ) (i n : ℕ) (r : Reading) (h : i < n) (is : r ≡ readingOf (entryAt f i)) where
-  pub links-skip : OneOf (1 ∷ 2 ∷ []) (tagOf the-type r) → linksOf (entriesFrom f i (n - i)) ≡ linksOf (entriesFrom f (i + 1) (n - (i + 1)))
+  pub links-skip : OneOf (1 ∷ 2 ∷ 3 ∷ []) (tagOf the-type r) → linksOf (entriesFrom f i (n - i)) ≡ linksOf (entriesFrom f (i + 1) (n - (i + 1)))
   links-skip t = ap linksOf (rest f i n h) ∙ links-other (entryAt f i) (entriesFrom f (i + 1) (n - (i + 1))) (not-link r (entryAt f i) is t)
 
   module _ (a b : Member) (c : Units) (e : r ≡ Reading.Link a b c) where
@@ -64,6 +65,7 @@ within-more : (n : ℕ) (e : Entry) (es : List Entry) → Fits e → (membersOf 
 unfolding membersOf linksOf
 within-more n (link l) es h ih k = ((h .low, h .below, omega arith), ih (omega arith))
 within-more n (offer o) es h ih k = ih (omega arith)
+within-more n (begins j) es h ih k = ih (omega arith)
 within-more n (fault x) es h ih k = ih k
 
 pub links-within : (f : List ℕ) → Within (membersOf (entries f)) (linksOf (entries f))
@@ -81,6 +83,7 @@ small-more u v (link l) es h ih = go (joins l u v)
     go true = h .small
     go false = ih
 small-more u v (offer o) es h ih = ih
+small-more u v (begins j) es h ih = ih
 small-more u v (fault k) es h ih = ih
 
 pub capacity-small : (f : List ℕ) (u v : ℕ) → capacityOf (linksOf (entries f)) u v ≤ 40

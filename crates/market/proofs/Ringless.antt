@@ -10,7 +10,7 @@ use Rattle.problem.specs.Problem.{joined}
 use Rattle.problem.proofs.Tree.{Open}
 use Rattle.problem.proofs.Joins.{joined-is}
 use Rattle.records.specs.Records.{Entry, entries}
-use Rattle.records.specs.Records.Entry.{link, offer, fault}
+use Rattle.records.specs.Records.Entry.{link, offer, begins, fault}
 use Rattle.records.specs.Market.{linksOf}
 use Rattle.market.specs.Refusals.{firstRecord, closes}
 
@@ -18,6 +18,7 @@ open-from : (i : ℕ) (earlier es : List Entry) → firstRecord closes i earlier
 unfolding firstRecord closes linksOf
 open-from i earlier [] e = tt
 open-from i earlier (offer o ∷ es) e = open-from (suc i) (offer o ∷ earlier) es e
+open-from i earlier (begins j ∷ es) e = open-from (suc i) (begins j ∷ earlier) es e
 open-from i earlier (fault k ∷ es) e = open-from (suc i) (fault k ∷ earlier) es e
 open-from i earlier (link l ∷ es) e = go (joined (linksOf earlier) (l .a) (l .b)) refl e (open-from (suc i) (link l ∷ earlier) es)
   where

@@ -23,7 +23,7 @@ use Rattle.network.proofs.Merges.{Ringless, few, Keeps, keeps-none, keeps-more,
 use Rattle.records.specs.declared.Reading.{Reading}
 use Rattle.records.specs.declared.Reading.the-variants as Reading
 use Rattle.records.specs.Records.{Entry, entryAt, entriesFrom, entries}
-use Rattle.records.specs.Records.Entry.{link, offer, fault}
+use Rattle.records.specs.Records.Entry.{link, offer, begins, fault}
 use Rattle.records.specs.inner.Cases.{readingOf}
 use Rattle.records.specs.Market.{linksOf}
 use Rattle.records.proofs.Reading.{the-type}
@@ -47,6 +47,7 @@ before-within f (suc i) = go (entryAt f i) (entry-fits f i) (before-within f i)
     go : (e : Entry) → Fits e → Within 32 (linksOf (earlier f i)) → Within 32 (linksOf (e ∷ earlier f i))
     go (link l) h w = ((h .low, h .below, h .high), w)
     go (offer o) h w = w
+    go (begins j) h w = w
     go (fault k) h w = w
 
 -- the sets ms keep the links before record i of n, of which none closes a ring; s are those links
@@ -79,9 +80,10 @@ other-closes : (es : List Entry) (e : Entry) → ((l : Link) → e ≡ link l �
 unfolding closes
 other-closes es (link l) h = absurd (h l refl)
 other-closes es (offer o) h = refl
+other-closes es (begins j) h = refl
 other-closes es (fault k) h = refl
 
-pub pass-skip : (f ms : List ℕ) (s : Links) (n i : ℕ) (r : Reading) → i < n → r ≡ readingOf (entryAt f i) → OneOf (1 ∷ 2 ∷ []) (tagOf the-type r) → Pass f ms s n i → Pass f ms s n (i + 1)
+pub pass-skip : (f ms : List ℕ) (s : Links) (n i : ℕ) (r : Reading) → i < n → r ≡ readingOf (entryAt f i) → OneOf (1 ∷ 2 ∷ 3 ∷ []) (tagOf the-type r) → Pass f ms s n i → Pass f ms s n (i + 1)
 unfolding earlier
 pass-skip f ms s n i r h is t P =
     let d = not-link r (entryAt f i) is t in

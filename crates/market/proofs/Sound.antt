@@ -1,4 +1,4 @@
--- A file that passes refusals 1 to 10 is a market on a tree. Assumes nothing.
+-- A file that passes refusals 1 to 10, 13 and 14 is a market on a tree. Assumes nothing.
 use mathlib.Core.Path.{_≡_, refl}
 use mathlib.Core.List.{List, []}
 use mathlib.Core.Option.{Option, none, some}

@@ -12,15 +12,15 @@ use lib.Seq.{getD-set-same, getD-set-other}
 use borrow.Author.Tests.{ne-eqb, lt-ltb, le-ltb}
 use Rattle.numbers.specs.declared.Member.{Member}
 use Rattle.numbers.specs.declared.Units.{Units}
-use Rattle.numbers.specs.declared.Price.{Price}
 use Rattle.numbers.specs.inner.Held.{member}
 use Rattle.problem.proofs.Count.{same?}
 use Rattle.records.specs.Records.{Entry, entryAt, entriesFrom, entries}
-use Rattle.records.specs.Records.Entry.{link, offer, fault}
+use Rattle.records.specs.Records.Entry.{link, offer, begins, fault}
 use Rattle.records.specs.Market.{membersOf, offersOf, marketOf}
+use Rattle.records.specs.declared.Terms.{Terms}
 use Rattle.records.specs.declared.Reading.the-variants as Reading
 use Rattle.records.specs.inner.Cases.{readingOf}
-use Rattle.records.proofs.Entries.{rest, ended, link-is, offer-is, fault-is, Fits, entry-fits}
+use Rattle.records.proofs.Entries.{rest, ended, link-is, offer-is, begins-is, fault-is, MemberFits, Fits, entry-fits}
 use Rattle.market.specs.Refusals.{lowestMember, offersBy, without, tooMany}
 use Rattle.market.specs.declared.offers.Tally.{Tally}
 use Rattle.market.specs.declared.Place.{Place}
@@ -43,22 +43,31 @@ added by m i j low high is = go (same? (suc j) m)
 -- ---- one record more
 
 -- an offer's member, as it is read
-pub offer-member : (f : List ℕ) (i : ℕ) (m : Member) (u : Units) (p : Price) → readingOf (entryAt f i) ≡ Reading.Offer m u p → (1 ≤ m .0) × (m .0 ≤ 32)
-offer-member f i m u p is = let h = subst Fits (offer-is (entryAt f i) m u p is) (entry-fits f i) in (h .low, h .high)
+pub offer-member : (f : List ℕ) (i : ℕ) (m : Member) (t : Terms) → readingOf (entryAt f i) ≡ Reading.Offer m t → MemberFits (m .0)
+offer-member f i m t is = subst Fits (offer-is (entryAt f i) m t is) (entry-fits f i) .member
+
+-- r is t with a record that names member m and offers nothing
+abbrev Named : ℕ → Tally → Tally → Type 0
+Named m t r = (r .members .0 ≡ max (t .members .0) m) × (r .offers ≡ t .offers) × (r .by ≡ t .by)
 
 module _ (e : Entry) (t : Tally) where
-  pub counts-link : (x r : Tally) (a b : Member) (c : Units) → readingOf e ≡ Reading.Link a b c → (x .members .0 ≡ max (t .members .0) (a .0)) × (x .offers ≡ t .offers) × (x .by ≡ t .by)
-      → (r .members .0 ≡ max (x .members .0) (b .0)) × (r .offers ≡ x .offers) × (r .by ≡ x .by) → Counts e t r
+  pub counts-link : (x r : Tally) (a b : Member) (c : Units) → readingOf e ≡ Reading.Link a b c → Named (a .0) t x → Named (b .0) x r → Counts e t r
   unfolding membersOf offersOf offersBy
   counts-link x r a b c is g h =
       subst (λ (k : Entry). Counts k t r) (sym (link-is e a b c is))
       (record { members = omega arith; offers = omega arith; by = λ j l. ap (λ (k : List ℕ). getD k j 0) (h .2 ∙ g .2) ∙ omega arith })
 
-  pub counts-offer : (r : Tally) (m : Member) (u : Units) (p : Price) → readingOf e ≡ Reading.Offer m u p → Offered (m .0) t r → Counts e t r
+  pub counts-offer : (r : Tally) (m : Member) (u : Terms) → readingOf e ≡ Reading.Offer m u → Offered (m .0) t r → Counts e t r
   unfolding membersOf offersOf offersBy
-  counts-offer r m u p is h =
-      subst (λ (k : Entry). Counts k t r) (sym (offer-is e m u p is))
+  counts-offer r m u is h =
+      subst (λ (k : Entry). Counts k t r) (sym (offer-is e m u is))
       (record { members = omega (arith, h .members); offers = omega (arith, h .offers); by = λ j l. omega (arith, h .by j l) })
+
+  pub counts-begins : (r : Tally) (m : Member) → readingOf e ≡ Reading.Begins m → Named (m .0) t r → Counts e t r
+  unfolding membersOf offersOf offersBy
+  counts-begins r m is h =
+      subst (λ (k : Entry). Counts k t r) (sym (begins-is e m is))
+      (record { members = omega arith; offers = omega arith; by = λ j l. ap (λ (k : List ℕ). getD k j 0) (h .2) ∙ omega arith })
 
   pub counts-fault : (k : ℕ) → readingOf e ≡ Reading.Fault k → Counts e t t
   unfolding membersOf offersOf offersBy
@@ -70,6 +79,7 @@ offers-apart : (e : Entry) (es : List Entry) → (length (offersOf (e ∷ es)) �
 unfolding offersOf
 offers-apart (link l) es = (omega arith, omega arith)
 offers-apart (offer o) es = (omega arith, omega arith)
+offers-apart (begins j) es = (omega arith, omega arith)
 offers-apart (fault k) es = (omega arith, omega arith)
 
 at-most-one : (b : Bool) → cond b 1 0 ≤ 1
@@ -80,6 +90,7 @@ by-apart : (j : ℕ) (e : Entry) (es : List Entry) → (offersBy j (offersOf (e 
 unfolding offersOf offersBy
 by-apart j (link l) es = (omega arith, omega arith)
 by-apart j (offer o) es = (omega arith, omega (arith, at-most-one (eqb j (o .member))))
+by-apart j (begins m) es = (omega arith, omega arith)
 by-apart j (fault k) es = (omega arith, omega arith)
 
 -- the tally t of the records before record i, of n, and what is left

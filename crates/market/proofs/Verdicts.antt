@@ -13,7 +13,7 @@ use borrow.Author.Tests.{eq-eqb, ne-eqb}
 use Rattle.numbers.proofs.Tests.{true-false}
 use Rattle.problem.specs.Problem.{Link, Offer, Market, walk}
 use Rattle.records.specs.Records.{Entry, entries}
-use Rattle.records.specs.Records.Entry.{link, offer, fault}
+use Rattle.records.specs.Records.Entry.{link, offer, begins, fault}
 use Rattle.records.specs.Refusals.{Refusal, refusal, _otherwise_, placeIf, unsound}
 use Rattle.records.specs.Market.{membersOf, linksOf, offersOf, marketOf}
 use Rattle.records.specs.inner.Cases.{verdictOf}
@@ -76,7 +76,7 @@ pub refused-is : (k : ℕ) (o : Option ℕ) (p q : ℕ) → p ≡ q → o ≡ so
 unfolding refusal
 refused-is k o p q e h = ap {B = Option Refusal} (λ (x : ℕ). some (record { number = k; place = x })) e ∙ sym (ap (refusal k) h)
 
--- refusals 1 to 4, by the verdict on the records
+-- refusals 1 to 4, 13 and 14, by the verdict on the records
 module _ (f : List ℕ) (v : Verdict) (is : v ≡ verdictOf (unsound f)) where
   pub read-fault : (k p : ℕ) → v ≡ Verdict.Refused k p → checked (marketOf f) (some (record { number = k; place = p })) ≡ checkedOf f
   unfolding checkedOf fileRefusal _otherwise_
@@ -114,7 +114,8 @@ only-10 f n ls p q =
 member-more : (e : Entry) (es : List Entry) → Fits e → ((length (offersOf es) ≡ 0 → ⊥) → 1 ≤ membersOf es) → (length (offersOf (e ∷ es)) ≡ 0 → ⊥) → 1 ≤ membersOf (e ∷ es)
 unfolding offersOf membersOf
 member-more (link l) es h ih n = omega (arith, ih n)
-member-more (offer o) es h ih n = omega (arith, h .low)
+member-more (offer o) es h ih n = omega (arith, h .member .0)
+member-more (begins j) es h ih n = omega (arith, ih n)
 member-more (fault k) es h ih n = ih n
 
 pub member-of-offer : (f : List ℕ) → (length (offersOf (entries f)) ≡ 0 → ⊥) → 1 ≤ membersOf (entries f)

@@ -1,4 +1,4 @@
--- docs/RULES.md, "Refusals": refusals 5 to 10, and the first of 1 to 10 that applies.
+-- docs/RULES.md, "Refusals": refusals 5 to 10, and the first of 1 to 10, 13 and 14 that applies.
 use mathlib.Core.Bool.{Bool, true, false, cond, not}
 use mathlib.Core.List.{List, [], _∷_}
 use mathlib.Core.Option.{Option, none, some}
@@ -7,7 +7,7 @@ use lib.Dec.{ltb, eqb}
 use lib.ListN.{length}
 use Rattle.problem.specs.Problem.{Offer, Market, lowest, joined}
 use Rattle.records.specs.Records.{Entry, entries}
-use Rattle.records.specs.Records.Entry.{link, offer, fault}
+use Rattle.records.specs.Records.Entry.{link, offer, begins, fault}
 use Rattle.records.specs.Refusals.{Refusal, refusal, _otherwise_, placeIf, unsound}
 use Rattle.records.specs.Market.{linksOf, marketOf}
 
@@ -41,6 +41,7 @@ tooMany m = lowestMember (λ j. ltb 64 (offersBy j (m .offers))) (m .members)
 unfoldable pub closes : List Entry → Entry → Bool
 closes earlier (link l) = joined (linksOf earlier) (l .a) (l .b)
 closes earlier (offer o) = false
+closes earlier (begins j) = false
 closes earlier (fault k) = false
 
 -- 10: a member is not joined to member 1
@@ -64,6 +65,6 @@ from6 f = refusal 6 (without (marketOf f)) otherwise from7 f
 abbrev pub from5 : List ℕ → Option Refusal
 from5 f = refusal 5 (noOffer (marketOf f)) otherwise from6 f
 
--- refusals 1 to 10: the first that applies
+-- refusals 1 to 10, 13 and 14: the first that applies
 unfoldable pub fileRefusal : List ℕ → Option Refusal
 fileRefusal f = unsound f otherwise from5 f

@@ -1,5 +1,5 @@
-// Everything between the reading of records and the clearing: a file is either refused under 1 to 10, or it is a market on
-// a tree whose walk is known. Nothing is asked of a file's bytes.
+// Everything between the reading of records and the clearing: a file is either refused under 1 to 10, 13 or 14, or it is
+// a market on a tree whose walk is known. Nothing is asked of a file's bytes.
 ghost use mathlib.Core.Path.{_≡_};
 ghost use mathlib.Core.Option.{some};
 ghost use Prim.Native.Nat.{_+_, _<_, _≤_};
@@ -38,7 +38,7 @@ pub struct Checked {
     pub feeder: Feeder,
 }
 
-// The market of a file, or the first of refusals 1 to 10 that applies: each check goes on to the next.
+// The market of a file, or the first of refusals 1 to 10, 13 and 14 that applies: each check goes on to the next.
 pub fn market(file: &[u8]) -> Checked
     ensures { λ r. ⌜ r ≡ checkedOf (now (file .entry)) ⌝ }
 {

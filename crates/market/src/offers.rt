@@ -64,7 +64,8 @@ fn counted(file: &[u8], i: usize, t: Tally) -> Tally
     let r = records::read_at(file, i);
     match r {
         Reading::Link(a, b, _) => named(named(t, a), b),
-        Reading::Offer(m, _, _) => offered(t, m),
+        Reading::Offer(m, _) => offered(t, m),
+        Reading::Begins(m) => named(t, m),
         Reading::Fault(_) => t,
     }
 }
