@@ -50,7 +50,7 @@ neg n = negℤ (pos n)
 
 -- the claim
 pub all-right : AllRight starred
-unfolding starred W.bytes W.chain W.A W.B W.C W.D W.E W.F W.G W.H W.I W.J W.K neg S.best S.nothing S.inRange S.isTotal S.noTotal S.allFlows S.allIn S.judge S.lexLe N.eqZ N.within B.linkOf B.offerOf B.entryAt B.entriesFrom B.entries R.refusal R._otherwise_ R.placeIf R.tooLong R.notWhole R.faulty R.unsound M.membersOf M.linksOf M.offersOf M.marketOf P.bought P.sold P.net P.higher P.value P.plus P.totalTo P.total P.lowest P.joined P.branch P.walk P.sent P.upwards P.upward P.load A.low16 A.low32 A.orZero A.each A.memberBytes A.memberRecord A.linkRecord A.between A.totalRecord A.answerOf F.lowestMember F.firstRecord F.offersBy F.noOffer F.without F.tooMany F.closes F.apart F.fileRefusal code
+unfolding starred W.bytes W.chain W.A W.B W.C W.D W.E W.F W.G W.H W.I W.J W.K W.L W.M neg S.best S.nothing S.inRange S.isTotal S.noTotal S.allFlows S.allIn S.judge S.lexLe N.eqZ N.within B.linkOf B.linkAt B.pointOf B.pointAt B.unfinished B.unbegun B.badSpan B.beginAt B.spanOf B.spanAt B.entryAt B.entriesFrom B.entries R.refusal R._otherwise_ R.placeIf R.tooLong R.notWhole R.faulty R.unsound M.membersOf M.linksOf M.offersOf M.marketOf P.bought P.sold P.net P.worth P.offered P.higher P.value P.plus P.totalTo P.total P.lowest P.joined P.branch P.walk P.sent P.upwards P.upward P.load A.low16 A.low32 A.orZero A.each A.memberBytes A.memberRecord A.linkRecord A.between A.totalRecord A.answerOf F.lowestMember F.firstRecord F.offersBy F.noOffer F.without F.tooMany F.closes F.apart F.fileRefusal code
 all-right = (
   clears W.A 3 (pos 2 ∷ pos 2 ∷ []) (pos 80) (omega arith) refl refl refl refl refl refl,
   (
@@ -73,7 +73,13 @@ all-right = (
                     clears W.J 3 (pos 2 ∷ pos 2 ∷ []) (pos 20) (omega arith) refl refl refl refl refl refl,
                     (
                       clears W.K 2 (pos 2 ∷ []) (pos 90) (omega arith) refl refl refl refl refl refl,
-                      tt,
+                      (
+                        clears W.L 2 (pos 3 ∷ []) (pos 120) (omega arith) refl refl refl refl refl refl,
+                        (
+                          clears W.M 2 (pos 4 ∷ []) (pos 80) (omega arith) refl refl refl refl refl refl,
+                          tt,
+                        ),
+                      ),
                     ),
                   ),
                 ),
