@@ -41,10 +41,10 @@ fn answer(file: &[u8]) -> u8 {
     if shown.refused { REFUSED } else { CLEARED }
 }
 
-// Clears the market on standard input. A file of more than 16,632 bytes is read no further than to 16,640, which shows that
+// Clears the market on standard input. A file of more than 33,016 bytes is read no further than to 33,024, which shows that
 // it is too long.
 fn clear() -> u8 {
-    let mut file = [0u8; 16640];
+    let mut file = [0u8; 33024];
     let got = streams::read(STDIN_FILENO, &mut file);
     if got < 0 {
         os::fail(b"clear: cannot read the market");

@@ -138,21 +138,6 @@ module _ (s : Span) (top : ℤ) (n from end : ℕ) (C : Covered s top n from end
   after : x < n → end ≤ x → cellIn s (top -ℤ pos x) ≡ 0
   after l h = outside s (top -ℤ pos x) (covers l ∙ rw (le-ltb x end h) refl)
 
--- the next row has the higher of the two at x, and is the same elsewhere
-pub record Raised (row next : List ℕ) (x c : ℕ) : Type 0 where
-  pub same : length next ≡ length row
-  pub others : (y : ℕ) → (y ≡ x → ⊥) → getD next y 0 ≡ getD row y 0
-  pub here : getD next x 0 ≡ max (getD row x 0) c
-
-module _ (row next : List ℕ) (x c : ℕ) where
-  pub raised : x < length row → getD row x 0 < c → next ≡ set row x c → Raised row next x c
-  raised l h e =
-      subst (λ (r : List ℕ). Raised row r x c) (sym e)
-      (record { same = length-set row x c; others = λ y n. getD-set-other row x y c 0 n; here = getD-set-same row x c 0 l ∙ omega arith })
-
-  pub not-raised : c ≤ getD row x 0 → next ≡ row → Raised row next x c
-  not-raised h e = subst (λ (r : List ℕ). Raised row r x c) (sym e) (record { same = refl; others = λ y n. refl; here = omega arith })
-
 -- the cells below x are done, and p is the price at cell x
 pub record Putting (s : Span) (top : ℤ) (from x : ℕ) (p : ℤ) (row₀ row : List ℕ) : Type 0 where
   pub same : length row ≡ length row₀
@@ -172,24 +157,24 @@ module _ (s : Span) (top : ℤ) (row₀ : List ℕ) (from end : ℕ) (C : Covere
   }
 
   module _ (x : ℕ) (p : ℤ) (row : List ℕ) (I : Putting s top from x p row₀ row) where
-    pub put-more : (next : List ℕ) (c : ℕ) (q : ℤ) → x < end → c ≡ cellOf 1000000 (some p) → q ≡ p -ℤ s .slope .0 → Raised row next x c → Putting s top from (x + 1) q row₀ next
-    put-more next c q h e f R = record {
-      same = R .same ∙ I .same;
+    pub put-more : (c : ℕ) (q : ℤ) → x < end → c ≡ max (getD row x 0) (cellOf 1000000 (some p)) → q ≡ p -ℤ s .slope .0 → Putting s top from (x + 1) q row₀ (set row x c)
+    put-more c q h e f = record {
+      same = length-set row x c ∙ I .same;
       past = omega (arith, I .past);
       price = f ∙ ap (λ (z : ℤ). z -ℤ s .slope .0) (I .price) ∙ line-less s top x;
-      put = λ y k b. bool-cases (eqb y x) (λ t. getD next y 0 ≡ max (getD row₀ y 0) (cellIn s (top -ℤ pos y)))
-          (λ t. subst (λ (z : ℕ). getD next z 0 ≡ max (getD row₀ z 0) (cellIn s (top -ℤ pos z))) (sym (eqb-true y x t)) at-x)
-          (λ t. R .others y (eqb-false y x t) ∙ I .put y (omega (arith, eqb-false y x t)) b);
-      left = λ y k. R .others y (λ r. omega arith) ∙ I .left y (omega arith);
+      put = λ y k b. bool-cases (eqb y x) (λ t. getD (set row x c) y 0 ≡ max (getD row₀ y 0) (cellIn s (top -ℤ pos y)))
+          (λ t. subst (λ (z : ℕ). getD (set row x c) z 0 ≡ max (getD row₀ z 0) (cellIn s (top -ℤ pos z))) (sym (eqb-true y x t)) at-x)
+          (λ t. getD-set-other row x y c 0 (eqb-false y x t) ∙ I .put y (omega (arith, eqb-false y x t)) b);
+      left = λ y k. getD-set-other row x y c 0 (λ r. omega arith) ∙ I .left y (omega arith);
     }
       where
-        gives : cellIn s (top -ℤ pos x) ≡ c
+        gives : cellIn s (top -ℤ pos x) ≡ cellOf 1000000 (some p)
         gives =
             inside s (top -ℤ pos x) (covered s top (length row₀) from end C x (I .past) h)
-            ∙ ap (λ (z : ℤ). cellOf 1000000 (some z)) (sym (I .price)) ∙ sym e
+            ∙ ap (λ (z : ℤ). cellOf 1000000 (some z)) (sym (I .price))
 
-        at-x : getD next x 0 ≡ max (getD row₀ x 0) (cellIn s (top -ℤ pos x))
-        at-x = omega (arith, R .here, I .left x (omega arith), gives)
+        at-x : getD (set row x c) x 0 ≡ max (getD row₀ x 0) (cellIn s (top -ℤ pos x))
+        at-x = getD-set-same row x c 0 (omega (arith, I .same, C .short)) ∙ omega (arith, e, I .left x (omega arith), gives)
 
     pub put-done : end ≤ x → (y : ℕ) → y < length row₀ → getD row y 0 ≡ max (getD row₀ y 0) (cellIn s (top -ℤ pos y))
     put-done h y l =

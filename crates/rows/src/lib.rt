@@ -115,6 +115,13 @@ fn cell_at(records: &[u8], i: usize, j: Member, x: Units) -> u32
     cell_in(s, x)
 }
 
+// The higher of two cells.
+fn higher(a: u32, b: u32) -> u32
+    ensures { λ r. ⌜ r ≡ max a b ⌝ }
+{
+    if a < b { b } else { a }
+}
+
 // The worth of some units to a member: the highest price that its table gives for them, or nothing.
 pub enum Worth {
     Price(Price),
@@ -130,9 +137,7 @@ pub fn value_of(records: &[u8], j: Member, x: Units) -> Worth
     let mut i = 0;
     while i < n {
         let c = cell_at(records, i, j, x);
-        if best < c {
-            best = c;
-        }
+        best = higher(best, c);
         i += 1;
     }
     if best == 0 {
@@ -208,10 +213,9 @@ fn put_span(s: Span, top: Units, row: &mut [u32])
     let mut p = slope.amount(start.units, s.base);
     let mut x = start.place;
     while x < end {
-        let c = cell_of(p);
-        if row[x] < c {
-            row[x] = c;
-        }
+        let held = row[x];
+        let given = cell_of(p);
+        row[x] = higher(held, given);
         let next = p.less(slope);
         p = next;
         x += 1;

@@ -13,7 +13,7 @@ fn lines(page: &mut [u8], at: usize, file: &[u8]) -> usize
 fn read(page: &mut [u8], at: usize, fd: i32) -> usize
     requires { ⌜ at ≤ length (now page) ⌝ }
 {
-    let mut file = [0u8; 16640];
+    let mut file = [0u8; 33024];
     let got = streams::read(fd, &mut file);
     libc::close(fd);
     if got < 0 {

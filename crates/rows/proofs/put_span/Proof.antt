@@ -2,14 +2,13 @@
 -- gives, those from x on are as they were, and p is the span's price at cell x. Assumes nothing.
 use mathlib.Core.Path.{_≡_, refl, sym, ap, _∙_, subst}
 use mathlib.Core.Bool.{true}
-use mathlib.Core.Logic.{⊎-elim}
-use Prim.Native.Nat.{_-_, _^_, _<_}
+use Prim.Native.Nat.{ℕ, _-_, _^_, _<_, max}
 use native.Mathlib.Omega.{arith}
 use lib.IntN.{ℤ, pos, negℤ, natAbs, _-ℤ_}
-use lib.ListN.{length}
+use lib.ListN.{length, getD}
 use borrow.Author.Needs.{needs}
 use Rattle.numbers.specs.Whole.{within}
-use Rattle.rows.proofs.Lines.{onLine, Covered, covered, line-within, line-small, Raised, raised, not-raised, Putting, put-none, put-more, put-done, Put}
+use Rattle.rows.proofs.Lines.{onLine, Covered, covered, line-within, line-small, Putting, put-none, put-more, put-done, Put}
 use Rattle.rows.proofs.put_span.Statement.{statement}
 use Rattle.rows.proofs.put_span.Tie as tie
 
@@ -47,9 +46,6 @@ in-span c = covered _ _ _ _ _ (here (c .before .before)) _ (so-far (c .before) .
 in-row : (c : tie.In-loop Inv-loop μ-loop) → c .before .loop .x < length (c .before .loop .row)
 in-row c = omega (arith, here (c .before .before) .short, so-far (c .before) .same, c .loop-test .taken)
 
-next : (c : tie.Joined1 Inv-loop μ-loop) → Raised (c .before .before .before .before .loop .row) (c .if1 .row) (c .before .before .before .before .loop .x) (c .before .before .cell-of .result)
-next c = ⊎-elim (λ s. raised _ _ _ _ (in-row (c .before .before .before)) (s .0 .taken) (s .1)) (λ s. not-raised _ _ _ _ (s .0 .left) (s .1)) (c .if1 .came)
-
 start-at-requires : tie.Need-start-at-requires Inv-loop μ-loop
 start-at-requires c κs = search needs
 
@@ -62,16 +58,20 @@ amount-requires c κs = search needs
 loop-holds : tie.Need-loop-holds Inv-loop μ-loop
 loop-holds c = λ s top e C q. put-none s top _ _ _ C _ q
 
+mul-held : tie.Need-mul-held Inv-loop μ-loop
+mul-held c = search needs
+
+slice-read-held : tie.Need-slice-read-held Inv-loop μ-loop
+slice-read-held c = in-row (c .before)
+
 cell-of-requires : tie.Need-cell-of-requires Inv-loop μ-loop
 cell-of-requires c κs =
-    let a = c .before .before .before .before .before .before .before in
-    ap (λ (z : ℤ). within (negℤ (pos 1000000)) (pos 1000000) z) (so-far (c .before) .price) ∙ line-within (a .args .s) _ (in-span c) (a .pre)
+    let l = c .before in
+    let a = l .before .before .before .before .before .before .before in
+    ap (λ (z : ℤ). within (negℤ (pos 1000000)) (pos 1000000) z) (so-far (l .before) .price) ∙ line-within (a .args .s) _ (in-span l) (a .pre)
 
-mul-if1 : tie.Need-mul-if1 Inv-loop μ-loop
-mul-if1 c = search needs
-
-slice-read-if1 : tie.Need-slice-read-if1 Inv-loop μ-loop
-slice-read-if1 c = in-row (c .before .before)
+higher-requires : tie.Need-higher-requires Inv-loop μ-loop
+higher-requires c κs = search needs
 
 mul-row : tie.Need-mul-row Inv-loop μ-loop
 mul-row c = search needs
@@ -93,8 +93,11 @@ loop-less c = omega arith
 
 loop-again : tie.Need-loop-again Inv-loop μ-loop
 loop-again c =
-    let l = c .before .before .before .before in
-    λ s top e C q. put-more s top _ _ _ C _ _ _ (l .before .loop .inv s top e C q) _ _ _ (l .loop-test .taken) (c .before .before .before .cell-of .ensures) (c .less .ensures ∙ ap (λ (z : ℤ). l .before .loop .p .0 -ℤ z) (sym e)) (next (c .before))
+    let k = c .before in
+    let l = k .before .before .before in
+    λ s top e C q.
+    put-more s top _ _ _ C _ _ _ (l .before .loop .inv s top e C q) _ _ (l .loop-test .taken) (k .higher .ensures ∙ ap (λ (n : ℕ). max (getD (l .before .loop .row) (l .before .loop .x) 0) n) (k .before .cell-of .ensures))
+    (c .less .ensures ∙ ap (λ (z : ℤ). l .before .loop .p .0 -ℤ z) (sym e))
 
 same-length : tie.Need-same-length Inv-loop μ-loop
 same-length c = so-far (c .before) .same
@@ -105,4 +108,4 @@ returns c = put-done _ _ _ _ _ (here (c .before .before)) _ _ _ (so-far (c .befo
 pub put-span-spec : {M : Type 1} → statement M
 put-span-spec =
     tie.close
-    (tie.spec Inv-loop μ-loop start-at-requires cells-to-requires amount-requires loop-holds cell-of-requires mul-if1 slice-read-if1 mul-row slice-write-row less-requires add-x loop-less loop-again same-length returns)
+    (tie.spec Inv-loop μ-loop start-at-requires cells-to-requires amount-requires loop-holds mul-held slice-read-held cell-of-requires higher-requires mul-row slice-write-row less-requires add-x loop-less loop-again same-length returns)

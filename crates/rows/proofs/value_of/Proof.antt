@@ -1,11 +1,11 @@
 -- `value_of` meets its contract. The loop's invariant: the whole table's cell is the higher of the best so far and what the
 -- records from i on give. Assumes nothing.
 use mathlib.Core.Path.{_≡_, refl, sym, ap, _∙_}
-use mathlib.Core.Logic.{⊎-elim}
 use Prim.Native.Nat.{ℕ, _≤_, _-_, _/_, max}
 use native.Mathlib.Omega.{arith}
 use lib.IntN.{pos, _-ℤ_}
 use lib.ListN.{length}
+use borrow.Author.Needs.{needs}
 use Rattle.problem.specs.Problem.{value}
 use Rattle.problem.proofs.Prices.{cellOf, value-limited}
 use Rattle.records.specs.Records.{entries}
@@ -34,6 +34,9 @@ loop-holds c = (refl, omega arith, left-all _ _ _ _ _ refl refl)
 cell-at-requires : tie.Need-cell-at-requires Inv-loop μ-loop
 cell-at-requires c κs = omega arith
 
+higher-requires : tie.Need-higher-requires Inv-loop μ-loop
+higher-requires c κs = search needs
+
 add-i : tie.Need-add-i Inv-loop μ-loop
 add-i c = omega arith
 
@@ -42,34 +45,31 @@ loop-less c = omega arith
 
 loop-again : tie.Need-loop-again Inv-loop μ-loop
 loop-again c =
-    let l = c .before .before in
-    let g = c .before .cell-at .ensures in (
+    let l = c .before .before in (
       refl,
       omega arith,
-      l .before .loop .inv .2
-          ∙ left-more _ _ _ _ _ _ _ (l .loop-test .taken)
-          (⊎-elim (λ s. omega (arith, g, s .0 .taken, s .1)) (λ s. omega (arith, g, s .0 .left, s .1)) (c .if1 .came)),
+      l .before .loop .inv .2 ∙ left-more _ _ _ _ _ _ _ (l .loop-test .taken) (omega (arith, c .higher .ensures, c .before .cell-at .ensures)),
     )
 
 returns : tie.Need-returns Inv-loop μ-loop
-returns c = none-back 1000000 _ (sym (best-is (c .before)) ∙ c .if2 .taken)
+returns c = none-back 1000000 _ (sym (best-is (c .before)) ∙ c .if1 .taken)
 
 total-of-requires : tie.Need-total-of-requires Inv-loop μ-loop
 total-of-requires c κs =
     let a = c .before .before .before .before .args in
     let t = cell-bound (a .j .0) (a .x .0) (a .records .now) in
     let e = best-is (c .before) in
-    (omega (arith, c .if2 .left), omega arith)
+    (omega (arith, c .if1 .left), omega arith)
 
 returns-2 : tie.Need-returns-2 Inv-loop μ-loop
 returns-2 c =
     let l = c .before .before in
     let a = l .before .before .before .args in
     let v = value (offersOf (entries (a .records .now))) (a .j .0) (a .x .0) in
-    price-back 1000000 v (c .total-of .result) (value-limited 1000000 (offersOf (entries (a .records .now))) (priced (a .records .now)) (a .j .0) (a .x .0)) (omega (arith, best-is l, c .before .if2 .left))
+    price-back 1000000 v (c .total-of .result) (value-limited 1000000 (offersOf (entries (a .records .now))) (priced (a .records .now)) (a .j .0) (a .x .0)) (omega (arith, best-is l, c .before .if1 .left))
     (c .total-of .ensures ∙ ap (λ (k : ℕ). pos (k - 1) -ℤ pos 1000000) (best-is l))
 
 pub value-of-spec : {M : Type 1} → statement M
 value-of-spec =
     tie.close
-    (tie.spec Inv-loop μ-loop loop-holds cell-at-requires add-i loop-less loop-again returns total-of-requires returns-2)
+    (tie.spec Inv-loop μ-loop loop-holds cell-at-requires higher-requires add-i loop-less loop-again returns total-of-requires returns-2)
