@@ -1,4 +1,4 @@
-// Writes of each file that an argument names the walk of its market, or its refusal under 1 to 10.
+// Writes of each file that an argument names the walk of its market, or its refusal under 1 to 10, 13 or 14.
 use libc::STDOUT_FILENO;
 use market::Checked;
 use network::Feeder;
@@ -70,7 +70,7 @@ fn line(page: &mut [u8], at: usize, c: Checked) -> usize {
 }
 
 fn read(page: &mut [u8], at: usize, fd: i32) -> usize {
-    let mut file = [0u8; 16648];
+    let mut file = [0u8; 33032];
     let got = streams::read(fd, &mut file);
     libc::close(fd);
     if got < 0 {
