@@ -44,6 +44,8 @@ mod answer;
 #[cfg(feature = "alloc")]
 mod market;
 mod numbers;
+#[cfg(feature = "alloc")]
+mod offer;
 mod raw;
 mod record;
 mod refusal;
@@ -56,9 +58,11 @@ mod text;
 pub use answer::{clear_file, clear_market, Answer, LinkFlow, MemberNet, CLOSED, FULL};
 #[cfg(feature = "alloc")]
 pub use market::Market;
-pub use numbers::{Member, Price, Units};
+pub use numbers::{Member, Price, Slope, Units};
+#[cfg(feature = "alloc")]
+pub use offer::{Offer, Terms};
 pub use raw::{clear, ANSWER_LIMIT, FILE_LIMIT, STACK};
-pub use record::{records, Link, Offer, Record};
+pub use record::{records, Link, Lower, Point, Record, Upper};
 pub use refusal::Refusal;
 #[cfg(feature = "alloc")]
 pub use stored::NoAnswer;

@@ -3,8 +3,8 @@
 
 use crate::Refusal;
 
-/// The most bytes that a file has: 31 links and 32 times 64 offers, of 8 bytes each.
-pub const FILE_LIMIT: usize = 16_632;
+/// The most bytes that a file has: 31 links and 32 times 64 spans of two records, of 8 bytes each.
+pub const FILE_LIMIT: usize = 33_016;
 
 /// The most bytes that an answer has: 16 for each of 32 members.
 pub const ANSWER_LIMIT: usize = 512;
