@@ -1,5 +1,6 @@
 //! Clears one energy market: the members of a feeder, the links between them and each member's
-//! offers, in one half hour. The answer is the trade of highest total and the flow on every link.
+//! offers, in one half hour. An offer is for one number of units, or for a span of them, as a
+//! battery's is. The answer is the trade of highest total and the flow on every link.
 //!
 //! The work is done by a proved library; this package is the way to it from Rust. [`clear`] lends
 //! it a file and an answer area as bytes. [`clear_file`] takes a file's bytes and gives a typed
