@@ -38,7 +38,7 @@ pub struct Point {
 #[derive(Clone, Copy, Debug, PartialEq, Eq, Hash)]
 pub struct Lower {
     pub member: Member,
-    /// The fewest units to buy, negative to sell.
+    /// The least number of units; below 0 they are sold.
     pub low: Units,
     /// What the span's line has at 0 units.
     pub base: Price,
@@ -48,7 +48,7 @@ pub struct Lower {
 #[derive(Clone, Copy, Debug, PartialEq, Eq, Hash)]
 pub struct Upper {
     pub member: Member,
-    /// The most units to buy, negative to sell.
+    /// The greatest number of units; below 0 they are sold.
     pub high: Units,
     pub slope: Slope,
 }

@@ -20,7 +20,7 @@ use core::fmt;
 /// | 10 | [`Apart`](Refusal::Apart) | a member is not joined to member 1 | the lowest such member |
 /// | 11 | [`ShortArea`](Refusal::ShortArea) | the answer area has fewer than 16 bytes for each member | the bytes it must have |
 /// | 12 | [`Impossible`](Refusal::Impossible) | no allocation is possible | 0 |
-/// | 13 | [`HalfSpan`](Refusal::HalfSpan) | a record is one half of a span and the other half, for the same member, is not beside it: a lower end without its upper end directly after it, or an upper end without its lower end directly before it | the record |
+/// | 13 | [`HalfSpan`](Refusal::HalfSpan) | a lower end of a span has no upper end of the same member directly after it, or an upper end no lower end of the same member directly before it | the record |
 /// | 14 | [`WrongSpan`](Refusal::WrongSpan) | a span's lower end is above its upper end, or its price at an end is out of range | the record of the upper end |
 ///
 /// The checks are made in the order of the numbers, but for 3, 4, 13 and 14. These are looked for
