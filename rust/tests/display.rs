@@ -38,7 +38,7 @@ const CLEARED: [&str; 18] = [
     "chain_spans",
 ];
 
-const REFUSED: [&str; 7] = [
+const REFUSED: [&str; 10] = [
     "D",
     "I",
     "ring",
@@ -46,6 +46,9 @@ const REFUSED: [&str; 7] = [
     "offers_65",
     "repeats_65",
     "seven_bytes",
+    "lone_lower",
+    "lone_upper",
+    "turned_span",
 ];
 
 /// A market's text without colour, and its page.
