@@ -1,5 +1,6 @@
 //! Clears one energy market: the members of a feeder, the links between them and each member's
-//! offers, in one half hour. The answer is the trade of highest total and the flow on every link.
+//! offers, in one half hour. An offer is for one number of units, or for a span of them, as a
+//! battery's is. The answer is the trade of highest total and the flow on every link.
 //!
 //! The work is done by a proved library; this package is the way to it from Rust. [`clear`] lends
 //! it a file and an answer area as bytes. [`clear_file`] takes a file's bytes and gives a typed
@@ -44,6 +45,8 @@ mod answer;
 #[cfg(feature = "alloc")]
 mod market;
 mod numbers;
+#[cfg(feature = "alloc")]
+mod offer;
 mod raw;
 mod record;
 mod refusal;
@@ -56,9 +59,11 @@ mod text;
 pub use answer::{clear_file, clear_market, Answer, LinkFlow, MemberNet, CLOSED, FULL};
 #[cfg(feature = "alloc")]
 pub use market::Market;
-pub use numbers::{Member, Price, Units};
+pub use numbers::{Member, Price, Slope, Units};
+#[cfg(feature = "alloc")]
+pub use offer::{Offer, Terms};
 pub use raw::{clear, ANSWER_LIMIT, FILE_LIMIT, STACK};
-pub use record::{records, Link, Offer, Record};
+pub use record::{records, Link, Lower, Point, Record, Upper};
 pub use refusal::Refusal;
 #[cfg(feature = "alloc")]
 pub use stored::NoAnswer;

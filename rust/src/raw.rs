@@ -3,8 +3,8 @@
 
 use crate::Refusal;
 
-/// The most bytes that a file has: 31 links and 32 times 64 offers, of 8 bytes each.
-pub const FILE_LIMIT: usize = 16_632;
+/// The most bytes that a file has: 31 links and 32 times 64 spans of two records, of 8 bytes each.
+pub const FILE_LIMIT: usize = 33_016;
 
 /// The most bytes that an answer has: 16 for each of 32 members.
 pub const ANSWER_LIMIT: usize = 512;
@@ -22,7 +22,7 @@ extern "C" {
 /// Gives the number of bytes written, 16 for each member; the bytes after them stay as they were.
 /// A refusal changes no byte. [`ANSWER_LIMIT`] bytes are enough for every market.
 ///
-/// A call needs [`STACK`] bytes of stack at most (68,960 were measured, by the example `bench`) and
+/// A call needs [`STACK`] bytes of stack at most (69,288 were measured, by the example `bench`) and
 /// no heap.
 ///
 /// # Panics

@@ -8,9 +8,9 @@ use core::fmt;
 ///
 /// | number | refusal | given when | place |
 /// |---|---|---|---|
-/// | 1 | [`TooLong`](Refusal::TooLong) | the file has more than 16,632 bytes | 0 |
+/// | 1 | [`TooLong`](Refusal::TooLong) | the file has more than 33,016 bytes | 0 |
 /// | 2 | [`CutShort`](Refusal::CutShort) | its number of bytes is not a multiple of 8 | 0 |
-/// | 3 | [`UnknownKind`](Refusal::UnknownKind) | a record has a kind other than 1 and 2 | the record |
+/// | 3 | [`UnknownKind`](Refusal::UnknownKind) | a record has a kind other than 1, 2, 6 and 7 | the record |
 /// | 4 | [`WrongField`](Refusal::WrongField) | a record has a field outside its range, another value where zero must stand, or an a that is not below its b | the record |
 /// | 5 | [`NoOffer`](Refusal::NoOffer) | no record is an offer | 0 |
 /// | 6 | [`EmptyTable`](Refusal::EmptyTable) | a member from 1 to the highest has no offer | the lowest such member |
@@ -20,10 +20,13 @@ use core::fmt;
 /// | 10 | [`Apart`](Refusal::Apart) | a member is not joined to member 1 | the lowest such member |
 /// | 11 | [`ShortArea`](Refusal::ShortArea) | the answer area has fewer than 16 bytes for each member | the bytes it must have |
 /// | 12 | [`Impossible`](Refusal::Impossible) | no allocation is possible | 0 |
+/// | 13 | [`HalfSpan`](Refusal::HalfSpan) | a lower end of a span has no upper end of the same member directly after it, or an upper end no lower end of the same member directly before it | the record |
+/// | 14 | [`WrongSpan`](Refusal::WrongSpan) | a span's lower end is above its upper end, or its price at an end is out of range | the record of the upper end |
 ///
-/// The checks are made in the order of the numbers, but for 3 and 4, of which the first record at
-/// fault decides. A refusal is one of these and nothing else, so a `match` needs no `_`; a request
-/// that adds a refusal adds a case, and changes this package's version.
+/// The checks are made in the order of the numbers, but for 3, 4, 13 and 14. These are looked for
+/// together, where 3 has its turn: the first record at fault decides, and in one record the lowest
+/// number. A refusal is one of these and nothing else, so a `match` needs no `_`; a request that adds
+/// a refusal adds a case, and changes this package's version.
 ///
 /// ```
 /// use clearing::{clear_file, Refusal};
@@ -46,6 +49,8 @@ pub enum Refusal {
     Apart { member: Member },
     ShortArea { needed: usize },
     Impossible,
+    HalfSpan { record: usize },
+    WrongSpan { record: usize },
 }
 
 impl Refusal {
@@ -63,6 +68,8 @@ impl Refusal {
             Refusal::Apart { .. } => 10,
             Refusal::ShortArea { .. } => 11,
             Refusal::Impossible => 12,
+            Refusal::HalfSpan { .. } => 13,
+            Refusal::WrongSpan { .. } => 14,
         }
     }
 
@@ -71,7 +78,9 @@ impl Refusal {
         match *self {
             Refusal::UnknownKind { record }
             | Refusal::WrongField { record }
-            | Refusal::Ring { record } => record as u64,
+            | Refusal::Ring { record }
+            | Refusal::HalfSpan { record }
+            | Refusal::WrongSpan { record } => record as u64,
             Refusal::EmptyTable { member }
             | Refusal::LongTable { member }
             | Refusal::Apart { member } => member.0.into(),
@@ -102,6 +111,8 @@ impl Refusal {
             10 => Refusal::Apart { member },
             11 => Refusal::ShortArea { needed },
             12 => Refusal::Impossible,
+            13 => Refusal::HalfSpan { record },
+            14 => Refusal::WrongSpan { record },
             _ => panic!("the archive linked is not of this version: it gave refusal {number}"),
         })
     }
@@ -110,10 +121,10 @@ impl Refusal {
 impl fmt::Display for Refusal {
     fn fmt(&self, f: &mut fmt::Formatter) -> fmt::Result {
         match self {
-            Refusal::TooLong => write!(f, "more than 16,632 bytes"),
+            Refusal::TooLong => write!(f, "more than 33,016 bytes"),
             Refusal::CutShort => write!(f, "length not a multiple of 8"),
             Refusal::UnknownKind { record } => {
-                write!(f, "kind is neither 1 nor 2, in record {record}")
+                write!(f, "kind is none of 1, 2, 6 and 7, in record {record}")
             }
             Refusal::WrongField { record } => write!(
                 f,
@@ -129,6 +140,15 @@ impl fmt::Display for Refusal {
             Refusal::Apart { member } => write!(f, "member {member} is not joined to member 1"),
             Refusal::ShortArea { needed } => write!(f, "answer area shorter than {needed} bytes"),
             Refusal::Impossible => write!(f, "no possible allocation"),
+            Refusal::HalfSpan { record } => write!(
+                f,
+                "one end of a span without the other end beside it, in record {record}"
+            ),
+            Refusal::WrongSpan { record } => write!(
+                f,
+                "a span's lower end above its upper end, or its price out of range at an end, in \
+                 record {record}"
+            ),
         }?;
         write!(f, " (refusal {})", self.number())
     }

@@ -2,7 +2,7 @@
 //! read as records; what they say is not compared with the market's offers.
 
 use crate::record::links;
-use crate::{records, Link, Member, Offer, Record, ANSWER_LIMIT};
+use crate::{records, Link, Lower, Member, Point, Record, Upper, ANSWER_LIMIT};
 use core::error::Error;
 use core::fmt;
 
@@ -75,7 +75,9 @@ fn check_total(record: usize, total: &[[u8; 8]]) -> Result<(), NoAnswer> {
 fn highest_member(file: &[u8]) -> usize {
     let named = records(file).map(|record| match record {
         Record::Link(Link { a, b, .. }) => a.0.max(b.0),
-        Record::Offer(Offer { member, .. }) => member.0,
+        Record::Point(Point { member, .. })
+        | Record::Lower(Lower { member, .. })
+        | Record::Upper(Upper { member, .. }) => member.0,
         Record::Other(_) => 0,
     });
     named.max().unwrap_or(0).into()

@@ -2,7 +2,7 @@
 //! for each record, in order; what is no record is shown as its bytes, so that every file has a text
 //! and every text of a file gives that file again.
 
-use crate::{Link, Market, Member, Offer, Price, Record, Units};
+use crate::{Link, Lower, Market, Member, Point, Price, Record, Slope, Units, Upper};
 use alloc::format;
 use alloc::string::{String, ToString};
 use alloc::vec::Vec;
@@ -42,6 +42,8 @@ const MEMBER: Field = field("member", 0, 0xFF);
 const CAPACITY: Field = field("capacity", 0, i16::MAX as i32);
 const UNITS: Field = field("units", i16::MIN as i32, i16::MAX as i32);
 const PRICE: Field = field("price", i32::MIN, i32::MAX);
+const BASE: Field = field("base", i32::MIN, i32::MAX);
+const SLOPE: Field = field("slope", i32::MIN, i32::MAX);
 
 const fn field(name: &'static str, least: i32, most: i32) -> Field {
     Field { name, least, most }
@@ -49,19 +51,22 @@ const fn field(name: &'static str, least: i32, most: i32) -> Field {
 
 const LINK: &str = "link A B CAPACITY";
 const OFFER: &str = "offer MEMBER UNITS PRICE";
+const LOWER: &str = "lower MEMBER UNITS BASE";
+const UPPER: &str = "upper MEMBER UNITS SLOPE";
 const BYTES: &str = "bytes XX XX ...";
 
 impl Market {
     /// The market as lines, one for each record.
     ///
     /// ```
-    /// use clearing::{Market, Member, Price, Units};
+    /// use clearing::{Market, Member, Price, Slope, Units};
     ///
     /// let mut market = Market::new();
     /// market
     ///     .link(Member(1), Member(2), Units(2))
-    ///     .offer(Member(1), Units(-2), Price(-100));
-    /// assert_eq!(market.text(), "link 1 2 2\noffer 1 -2 -100\n");
+    ///     .offer(Member(1), Units(-2), Price(-100))
+    ///     .span(Member(2), Units(0), Units(5), Slope(70), Price(9));
+    /// assert_eq!(market.text(), "link 1 2 2\noffer 1 -2 -100\nlower 2 0 9\nupper 2 5 70\n");
     /// assert_eq!(Market::from(vec![3, 0]).text(), "bytes 03 00\n");
     /// ```
     pub fn text(&self) -> String {
@@ -87,11 +92,11 @@ impl Market {
             let said = line.split(|&byte| byte == b'#').next().unwrap_or_default();
             let said = String::from_utf8_lossy(said);
             let words: Vec<&str> = said.split_whitespace().collect();
-            let read = add_line(&mut market, &words);
-            read.map_err(|fault| Unreadable {
+            let bytes = bytes(&words).map_err(|fault| Unreadable {
                 line: number,
                 fault,
             })?;
+            market.add(&bytes);
         }
         Ok(market)
     }
@@ -101,11 +106,17 @@ impl Market {
 fn line(record: Record) -> String {
     match record {
         Record::Link(Link { a, b, capacity }) => format!("link {a} {b} {capacity}\n"),
-        Record::Offer(Offer {
+        Record::Point(Point {
             member,
             units,
             price,
         }) => format!("offer {member} {units} {price}\n"),
+        Record::Lower(Lower { member, low, base }) => format!("lower {member} {low} {base}\n"),
+        Record::Upper(Upper {
+            member,
+            high,
+            slope,
+        }) => format!("upper {member} {high} {slope}\n"),
         Record::Other(bytes) => {
             let digits: String = bytes.iter().map(|byte| format!(" {byte:02X}")).collect();
             format!("bytes{digits}\n")
@@ -113,29 +124,55 @@ fn line(record: Record) -> String {
     }
 }
 
-/// Adds the record of a line's words.
-fn add_line(market: &mut Market, words: &[&str]) -> Result<(), Fault> {
-    match *words {
-        [] => {}
-        ["link", a, b, capacity] => {
-            let (a, b) = (member(a)?, member(b)?);
-            market.link(a, b, units(CAPACITY, capacity)?);
-        }
-        ["offer", who, traded, price] => {
-            let (who, traded) = (member(who)?, units(UNITS, traded)?);
-            market.offer(who, traded, Price(number(PRICE, price)?));
-        }
-        ["bytes", _, ..] => {
-            for word in &words[1..] {
-                market.add(&[byte(word)?]);
-            }
-        }
+/// The bytes of a line's words.
+fn bytes(words: &[&str]) -> Result<Vec<u8>, Fault> {
+    let record = match words {
+        [] => return Ok(Vec::new()),
+        ["link", a, b, capacity] => link(a, b, capacity)?.bytes(),
+        ["offer", member, units, price] => point(member, units, price)?.bytes(),
+        ["lower", member, low, base] => lower(member, low, base)?.bytes(),
+        ["upper", member, high, slope] => upper(member, high, slope)?.bytes(),
+        ["bytes", _, ..] => return words[1..].iter().map(|word| byte(word)).collect(),
         ["link", ..] => return Err(Fault::Form(LINK)),
         ["offer", ..] => return Err(Fault::Form(OFFER)),
+        ["lower", ..] => return Err(Fault::Form(LOWER)),
+        ["upper", ..] => return Err(Fault::Form(UPPER)),
         ["bytes"] => return Err(Fault::Form(BYTES)),
         [name, ..] => return Err(Fault::Name(name.to_string())),
-    }
-    Ok(())
+    };
+    Ok(record.to_vec())
+}
+
+fn link(a: &str, b: &str, capacity: &str) -> Result<Link, Fault> {
+    Ok(Link {
+        a: member(a)?,
+        b: member(b)?,
+        capacity: units(CAPACITY, capacity)?,
+    })
+}
+
+fn point(who: &str, traded: &str, price: &str) -> Result<Point, Fault> {
+    Ok(Point {
+        member: member(who)?,
+        units: units(UNITS, traded)?,
+        price: Price(number(PRICE, price)?),
+    })
+}
+
+fn lower(who: &str, low: &str, base: &str) -> Result<Lower, Fault> {
+    Ok(Lower {
+        member: member(who)?,
+        low: units(UNITS, low)?,
+        base: Price(number(BASE, base)?),
+    })
+}
+
+fn upper(who: &str, high: &str, slope: &str) -> Result<Upper, Fault> {
+    Ok(Upper {
+        member: member(who)?,
+        high: units(UNITS, high)?,
+        slope: Slope(number(SLOPE, slope)?),
+    })
 }
 
 fn member(word: &str) -> Result<Member, Fault> {
@@ -172,7 +209,7 @@ impl fmt::Display for Fault {
         match self {
             Fault::Name(word) => write!(
                 f,
-                "a line begins with link, offer or bytes, not with {word:?}"
+                "a line begins with link, offer, lower, upper or bytes, not with {word:?}"
             ),
             Fault::Form(form) => write!(f, "it must be: {form}"),
             Fault::Number { field, word } => {

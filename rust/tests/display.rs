@@ -9,7 +9,7 @@ use crate::examples::committed;
 use crate::files::random_file;
 use crate::large::{random_links, random_offers, Shape};
 use crate::small::random_sheet;
-use clearing::{clear_file, Answer, Market, Member, Units};
+use clearing::{clear_file, clear_market, Answer, Market, Member, Units};
 use clearing_tools::drawing::{coloured, text};
 use clearing_tools::page::page;
 use clearing_tools::report::Report;
@@ -17,7 +17,7 @@ use shown::{of_page, of_text, Shown, ShownLink};
 use std::collections::BTreeSet;
 use std::ffi::OsStr;
 
-const CLEARED: [&str; 14] = [
+const CLEARED: [&str; 18] = [
     "A",
     "B",
     "C",
@@ -29,12 +29,16 @@ const CLEARED: [&str; 14] = [
     "K",
     "capacity_40",
     "offers_64",
+    "battery",
+    "battery_peak",
     "street",
     "star",
     "chain",
+    "star_spans",
+    "chain_spans",
 ];
 
-const REFUSED: [&str; 7] = [
+const REFUSED: [&str; 10] = [
     "D",
     "I",
     "ring",
@@ -42,6 +46,9 @@ const REFUSED: [&str; 7] = [
     "offers_65",
     "repeats_65",
     "seven_bytes",
+    "lone_lower",
+    "lone_upper",
+    "turned_span",
 ];
 
 /// A market's text without colour, and its page.
@@ -370,29 +377,48 @@ fn the_lines_of_the_tree_join_each_member_to_the_one_it_was_reached_from() {
 fn both_forms_say_who_is_held_back() {
     let mut seen = holds::Seen::default();
     for name in CLEARED {
-        check_holds(&holds::sheet(&committed(name)), &mut seen);
+        check_holds(committed(name), &mut seen);
     }
     let count = cases("CLEARING_SMALL", 3000, |random| {
-        check_holds(&random_sheet(random), &mut seen);
+        check_holds(random_sheet(random).file(random), &mut seen);
     });
     cases("CLEARING_LARGE", 12, |random| {
-        check_holds(&large_sheet(random), &mut seen);
+        check_holds(large_sheet(random).file(random), &mut seen);
     });
     cases("CLEARING_LARGE", 200, |random| {
-        check_holds(&extreme_sheet(random), &mut seen);
+        check_holds(extreme_sheet(random).file(random), &mut seen);
     });
     seen.enough(count / 500);
 }
 
-fn check_holds(sheet: &Sheet, seen: &mut holds::Seen) {
-    let file = sheet.records().concat();
-    if clear_file(&file).is_err() {
+fn check_holds(file: Vec<u8>, seen: &mut holds::Seen) {
+    let market = Market::from(file);
+    let Ok(answer) = clear_market(&market) else {
         return;
-    }
-    let expected = holds::sentences(sheet, seen);
-    let (text, page) = forms(&file);
-    assert_eq!(holds::of_text(&text), expected, "{sheet:?}");
-    assert_eq!(holds::of_page(&page), expected, "{sheet:?}");
+    };
+    let expected = holds::sentences(&market, &answer, seen);
+    let (text, page) = forms(market.file());
+    assert_eq!(holds::of_text(&text), expected, "{}", market.text());
+    assert_eq!(holds::of_page(&page), expected, "{}", market.text());
+}
+
+#[test]
+fn a_member_is_held_back_from_units_inside_its_span() {
+    let lines = b"
+        link 1 2 2
+        lower 1 -7 0
+        upper 1 -2 20
+        offer 2 2 100
+        lower 2 3 0
+        upper 2 7 30";
+    let market = Market::from_text(lines).expect("a market");
+    let (text, _) = forms(market.file());
+    let expected = [
+        "total 60; 2 members, 1 link; prices are in hundredths of a cent",
+        "link 1-2 is full: member 1 sells 2, would sell 7; member 2 buys 2, would buy 7;",
+        "    the total would be 70",
+    ];
+    assert!(text.lines().take(3).eq(expected), "{text}");
 }
 
 #[test]

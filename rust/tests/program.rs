@@ -8,7 +8,7 @@ use crate::common::cases;
 use crate::examples::committed;
 use crate::files::random_file;
 use crate::small::random_sheet;
-use clearing::{clear, ANSWER_LIMIT};
+use clearing::{clear, ANSWER_LIMIT, FILE_LIMIT};
 use folder::Folder;
 use std::env;
 use std::fs::File;
@@ -188,12 +188,12 @@ fn the_script_clears_a_file_and_standard_input() {
 
 #[test]
 fn the_scripts_status_tells_a_refusal() {
-    for name in ["A", "seven_bytes", "ring", "star"] {
+    for name in ["A", "seven_bytes", "ring", "star", "battery", "star_spans"] {
         let lines = lines(&committed(name));
         let status = lines.starts_with('R').into();
         assert_answer(&output(script().arg(example(name))), status, &lines);
     }
-    let refused = [&[9; 8][..], &[1; 16_640]];
+    let refused = [&[9; 8][..], &[1; FILE_LIMIT + 8]];
     for file in refused {
         let (output, _) = run(&mut script(), file);
         assert_answer(&output, 1, &lines(file));

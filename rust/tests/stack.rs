@@ -25,7 +25,17 @@ fn assert_enough(market: &Market) {
 
 #[test]
 fn a_call_needs_no_more_stack_than_is_documented() {
-    for name in ["star", "chain", "street", "A", "D", "ring"] {
+    for name in [
+        "star",
+        "chain",
+        "star_spans",
+        "chain_spans",
+        "street",
+        "A",
+        "D",
+        "ring",
+        "battery",
+    ] {
         assert_enough(&Market::from(committed(name)));
     }
     cases("CLEARING_RUNS", 300, |random| {

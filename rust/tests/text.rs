@@ -5,12 +5,20 @@ use crate::common::{cases, Random};
 use crate::files::random_file;
 use clearing::{Market, Unreadable};
 
+/// A file of any kind, with many records of every kind.
+pub fn any_file(random: &mut Random) -> Vec<u8> {
+    match random.one_in(2) {
+        true => random_bytes(random),
+        false => random_file(random),
+    }
+}
+
 /// Bytes that are nearly records, or quite, or not at all.
 fn random_bytes(random: &mut Random) -> Vec<u8> {
     let length = random.below(100);
     let mut bytes = random.bytes(length);
     for record in bytes.chunks_mut(8) {
-        record[0] = random.pick(&[record[0], 1, 2]);
+        record[0] = random.pick(&[record[0], 1, 2, 6, 7]);
         for byte in record.iter_mut().skip(1) {
             *byte = random.pick(&[*byte, 0, 1]);
         }
@@ -20,25 +28,22 @@ fn random_bytes(random: &mut Random) -> Vec<u8> {
 
 #[test]
 fn text_and_bytes_are_inverses_on_every_file() {
-    let (mut links, mut offers, mut others) = (0, 0, 0);
+    let names = ["link", "offer", "lower", "upper", "bytes"];
+    let mut seen = [0; 5];
     let count = cases("CLEARING_FILES", 20_000, |random| {
-        let file = match random.one_in(2) {
-            true => random_bytes(random),
-            false => random_file(random),
-        };
-        let market = Market::from(file);
+        let market = Market::from(any_file(random));
         let text = market.text();
         assert_eq!(text.lines().count(), market.file().len().div_ceil(8));
-        links += u64::from(text.contains("link"));
-        offers += u64::from(text.contains("offer"));
-        others += u64::from(text.contains("bytes"));
+        for (name, seen) in names.iter().zip(&mut seen) {
+            *seen += u64::from(text.contains(name));
+        }
         assert!(
             Market::from_text(text.as_bytes()) == Ok(market),
             "not the same bytes:\n{text}"
         );
     });
-    for seen in [links, offers, others] {
-        assert!(seen >= count / 10, "{links} {offers} {others} of {count}");
+    for (name, seen) in names.iter().zip(seen) {
+        assert!(seen >= count / 10, "{seen} of {count} with {name}");
     }
 }
 
@@ -61,8 +66,22 @@ fn each_record_is_a_line() {
         ),
         (&[1, 1, 2, 1, 2, 0, 0, 0], "bytes 01 01 02 01 02 00 00 00"),
         (&[1, 1, 2, 0, 2, 0, 0, 9], "bytes 01 01 02 00 02 00 00 09"),
-        (&[7, 0, 0, 0, 0, 0, 0, 0], "bytes 07 00 00 00 00 00 00 00"),
+        (&[6, 1, 0xF9, 0xFF, 5, 0, 0, 0], "lower 1 -7 5"),
+        (
+            &[6, 0, 0xFF, 0x7F, 0xFF, 0xFF, 0xFF, 0x7F],
+            "lower 0 32767 2147483647",
+        ),
+        (
+            &[7, 1, 0xFE, 0xFF, 0xEC, 0xFF, 0xFF, 0xFF],
+            "upper 1 -2 -20",
+        ),
+        (
+            &[7, 255, 0, 0x80, 0, 0, 0, 0x80],
+            "upper 255 -32768 -2147483648",
+        ),
+        (&[3, 0, 0, 0, 0, 0, 0, 0], "bytes 03 00 00 00 00 00 00 00"),
         (&[2, 1, 0, 0, 0, 0, 0], "bytes 02 01 00 00 00 00 00"),
+        (&[7, 1, 0, 0, 0, 0, 0], "bytes 07 01 00 00 00 00 00"),
         (&[0xAB], "bytes AB"),
     ] {
         let market = Market::from(bytes.to_vec());
@@ -85,15 +104,17 @@ fn a_line_that_cannot_be_read_is_named_with_its_number() {
     for (line, words) in [
         (
             "lnik 1 2 3",
-            "a line begins with link, offer or bytes, not with \"lnik\"",
+            "a line begins with link, offer, lower, upper or bytes, not with \"lnik\"",
         ),
         (
             "Link 1 2 3",
-            "a line begins with link, offer or bytes, not with \"Link\"",
+            "a line begins with link, offer, lower, upper or bytes, not with \"Link\"",
         ),
         ("link 1 2", "it must be: link A B CAPACITY"),
         ("link 1 2 3 4", "it must be: link A B CAPACITY"),
         ("offer 1", "it must be: offer MEMBER UNITS PRICE"),
+        ("lower 1 2", "it must be: lower MEMBER UNITS BASE"),
+        ("upper 1 2 3 4", "it must be: upper MEMBER UNITS SLOPE"),
         ("bytes", "it must be: bytes XX XX ..."),
         (
             "link 256 2 3",
@@ -118,6 +139,22 @@ fn a_line_that_cannot_be_read_is_named_with_its_number() {
         (
             "offer 1 0 2147483648",
             "price must be a number from -2147483648 to 2147483647, not \"2147483648\"",
+        ),
+        (
+            "lower 256 0 0",
+            "member must be a number from 0 to 255, not \"256\"",
+        ),
+        (
+            "lower 1 0 2147483648",
+            "base must be a number from -2147483648 to 2147483647, not \"2147483648\"",
+        ),
+        (
+            "upper 1 -32769 0",
+            "units must be a number from -32768 to 32767, not \"-32769\"",
+        ),
+        (
+            "upper 1 0 0.5",
+            "slope must be a number from -2147483648 to 2147483647, not \"0.5\"",
         ),
         ("bytes 1 2", "a byte is two hexadecimal digits, not \"1\""),
         (

@@ -20,7 +20,7 @@ fn assert_failed(output: &Output, words: &str) {
 
 #[test]
 fn market_gives_a_files_text_and_a_texts_bytes() {
-    for name in ["A", "K", "seven_bytes", "street"] {
+    for name in ["A", "K", "seven_bytes", "street", "battery"] {
         let file = format!("{name}.market");
         let text = output(&mut tool("market", &["text", &file]));
         assert_eq!(text.status.code(), Some(0), "{}", said(&text));

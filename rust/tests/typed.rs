@@ -1,11 +1,13 @@
 //! The typed side: a market's records, its text, its answer and the words of a refusal.
 
-use crate::common::{cases, Sheet};
+use crate::common::{cases, Random, Sheet};
+use crate::examples::committed;
 use crate::files::random_file;
 use crate::small::random_sheet;
+use crate::text::any_file;
 use clearing::{
-    clear, clear_file, clear_market, Answer, Market, Member, NoAnswer, Price, Record, Refusal,
-    Units, ANSWER_LIMIT,
+    clear, clear_file, clear_market, Answer, Lower, Market, Member, NoAnswer, Offer, Price, Record,
+    Refusal, Slope, Terms, Units, Upper, ANSWER_LIMIT, FILE_LIMIT,
 };
 
 fn market(sheet: &Sheet) -> Market {
@@ -103,21 +105,220 @@ fn a_market_is_read_back_as_it_was_made() {
             again.link(link.a, link.b, link.capacity);
         }
         for offer in market.offers() {
-            again.offer(offer.member, offer.units, offer.price);
+            add(&mut again, offer);
         }
         assert_eq!(again, market);
     });
 }
 
+fn add(market: &mut Market, Offer { member, terms }: Offer) {
+    match terms {
+        Terms::Point { units, price } => market.offer(member, units, price),
+        Terms::Span {
+            low,
+            high,
+            slope,
+            base,
+        } => market.span(member, low, high, slope, base),
+    };
+}
+
+/// Any numbers that the records of an offer can hold.
+fn random_offer(random: &mut Random) -> Offer {
+    let member = Member(random.next() as u8);
+    let (units, high) = (Units(random.next() as i16), Units(random.next() as i16));
+    let (price, slope) = (Price(random.next() as i32), Slope(random.next() as i32));
+    let terms = match random.one_in(2) {
+        true => Terms::Point { units, price },
+        false => Terms::Span {
+            low: units,
+            high,
+            slope,
+            base: price,
+        },
+    };
+    Offer { member, terms }
+}
+
+#[test]
+fn offers_are_read_back_as_they_were_made_whatever_their_numbers() {
+    cases("CLEARING_SMALL", 10_000, |random| {
+        let mut offers = Vec::new();
+        let mut market = Market::new();
+        for _ in 0..random.below(6) {
+            if random.one_in(3) {
+                market.link(Member(random.next() as u8), Member(2), Units(0));
+            }
+            let offer = random_offer(random);
+            add(&mut market, offer);
+            offers.push(offer);
+        }
+        assert!(market.offers().eq(offers), "{}", market.text());
+    });
+}
+
+#[test]
+fn a_span_is_two_records() {
+    let (member, low, high) = (Member(3), Units(-7), Units(-2));
+    let (slope, base) = (Slope(20), Price(-1));
+    let mut market = Market::new();
+    market.span(member, low, high, slope, base);
+    let lower = [6, 3, 0xF9, 0xFF, 0xFF, 0xFF, 0xFF, 0xFF];
+    let upper = [7, 3, 0xFE, 0xFF, 20, 0, 0, 0];
+    assert_eq!(market.file(), [lower, upper].concat());
+    let upper = Upper {
+        member,
+        high,
+        slope,
+    };
+    let lower = Lower { member, low, base };
+    let records = [Record::Lower(lower), Record::Upper(upper)];
+    assert!(market.records().eq(records));
+}
+
+#[test]
+fn one_end_of_a_span_is_no_offer() {
+    for (lines, offers) in [
+        ("lower 1 0 0", 0),
+        ("upper 1 0 0", 0),
+        ("upper 1 0 0\nlower 1 0 0", 0),
+        ("lower 1 0 0\nupper 2 0 0", 0),
+        ("lower 1 0 0\nlink 1 2 0\nupper 1 0 0", 0),
+        ("lower 1 0 0\nbytes 07 01 00 00 00 00 00", 0),
+        ("lower 1 0 0\noffer 1 0 0\nupper 1 0 0", 1),
+        ("lower 1 0 0\nlower 1 0 0\nupper 1 0 0", 1),
+        ("lower 1 0 0\nupper 1 0 0\nupper 1 0 0", 1),
+        ("lower 1 9 0\nupper 1 0 0\nlower 1 0 0\nupper 1 0 0", 2),
+    ] {
+        let market = Market::from_text(lines.as_bytes()).expect("a market");
+        assert_eq!(market.offers().count(), offers, "{lines}");
+    }
+}
+
+/// Member 1 offers a span of one number of units, and member 2 the other side of the trade at 0.
+fn one_unit_span(units: i16, slope: i32, base: i32) -> Market {
+    let mut market = Market::new();
+    let (units, other_side) = (Units(units), Units(-units));
+    market
+        .link(Member(1), Member(2), Units(40))
+        .span(Member(1), units, units, Slope(slope), Price(base))
+        .offer(Member(2), other_side, Price(0));
+    market
+}
+
+#[test]
+fn slopes_and_bases_may_be_any_numbers_whose_price_is_in_range() {
+    const MIN: i32 = i32::MIN;
+    const MAX: i32 = i32::MAX;
+    for (units, slope, base, price) in [
+        (0, MIN, -1_000_000, -1_000_000),
+        (0, MAX, 1_000_000, 1_000_000),
+        (1, MIN, MAX, -1),
+        (1, MAX, MIN, -1),
+        (-1, MIN, MIN, 0),
+        (-1, MAX, MAX, 0),
+        (-1, MAX, MAX - 1_000_000, -1_000_000),
+        (1, MIN + 1_000_001, MAX, 1_000_000),
+        (40, 53_687_091, -2_147_483_640, 0),
+        (-40, 53_687_091, MAX, 7),
+    ] {
+        let answer = clear_market(&one_unit_span(units, slope, base)).expect("an answer");
+        let entry = answer.members()[0];
+        assert_eq!((entry.net, entry.value), (Units(units), Price(price)));
+    }
+    for (units, slope, base) in [
+        (0, 0, 1_000_001),
+        (0, MAX, MIN),
+        (1, MIN, MIN),
+        (1, MAX, 1),
+        (-1, MIN, 0),
+        (-1, MIN, MAX),
+        (1, MIN + 1_000_002, MAX),
+        (-1, MAX, MAX - 1_000_001),
+        (40, MAX, MIN),
+        (-2000, MIN, 0),
+    ] {
+        let refused = Err(Refusal::WrongSpan { record: 2 });
+        assert_eq!(clear_market(&one_unit_span(units, slope, base)), refused);
+    }
+}
+
+#[test]
+fn a_span_that_breaks_a_rule_is_refused_at_its_record() {
+    let battery = Market::from(committed("battery"));
+    for (lines, refusal) in [
+        ("lower 1 0 0", Refusal::HalfSpan { record: 6 }),
+        ("upper 1 0 0", Refusal::HalfSpan { record: 6 }),
+        (
+            "offer 1 0 0\nlower 1 0 0\nupper 2 0 0",
+            Refusal::HalfSpan { record: 7 },
+        ),
+        (
+            "lower 1 0 0\nupper 1 0 0\nupper 1 0 0",
+            Refusal::HalfSpan { record: 8 },
+        ),
+        ("lower 1 5 0\nupper 1 4 0", Refusal::WrongSpan { record: 7 }),
+        (
+            "lower 1 -2000 0\nupper 1 0 501",
+            Refusal::WrongSpan { record: 7 },
+        ),
+        (
+            "lower 1 0 0\nupper 1 2000 501",
+            Refusal::WrongSpan { record: 7 },
+        ),
+        (
+            "lower 1 -2001 0\nupper 1 0 0",
+            Refusal::WrongField { record: 6 },
+        ),
+        (
+            "lower 1 0 0\nupper 1 2001 0",
+            Refusal::WrongField { record: 7 },
+        ),
+    ] {
+        let lines = battery.text() + lines;
+        let market = Market::from_text(lines.as_bytes()).expect("a market");
+        assert_eq!(clear_market(&market), Err(refusal), "{lines}");
+    }
+}
+
+#[test]
+fn a_span_has_a_price_for_each_of_its_units_and_the_highest_counts() {
+    for (name, net, value, total) in [("battery", 3, 180, 120), ("battery_peak", 4, 160, 80)] {
+        let answer = clear_file(&committed(name)).expect("an answer");
+        let [battery, other] = answer.members() else {
+            panic!("{name} has two members");
+        };
+        assert_eq!((battery.net, other.net), (Units(-net), Units(net)));
+        assert_eq!(battery.value, Price(-20 * i32::from(net)));
+        assert_eq!((other.value, answer.total()), (Price(value), Price(total)));
+    }
+}
+
+#[test]
+fn a_file_of_4127_records_is_not_too_long_and_one_of_4128_is() {
+    for name in ["star_spans", "chain_spans"] {
+        let mut file = committed(name);
+        assert_eq!((file.len(), FILE_LIMIT), (8 * 4127, 8 * 4127));
+        assert_eq!(Market::from(file.clone()).offers().count(), 32 * 64);
+        clear_file(&file).expect("an answer");
+        file.push(2);
+        assert_eq!(clear_file(&file), Err(Refusal::TooLong));
+        file.extend([1, 0, 0, 0, 0, 0, 0]);
+        assert_eq!(clear_file(&file), Err(Refusal::TooLong));
+    }
+}
+
 #[test]
 fn the_records_of_any_file_are_the_file() {
     cases("CLEARING_FILES", 10_000, |random| {
-        let market = Market::from(random_file(random));
+        let market = Market::from(any_file(random));
         let mut bytes = Vec::new();
         for record in market.records() {
             match record {
                 Record::Link(link) => bytes.extend(link.bytes()),
-                Record::Offer(offer) => bytes.extend(offer.bytes()),
+                Record::Point(point) => bytes.extend(point.bytes()),
+                Record::Lower(lower) => bytes.extend(lower.bytes()),
+                Record::Upper(upper) => bytes.extend(upper.bytes()),
                 Record::Other(other) => bytes.extend(other),
             }
         }
@@ -127,10 +328,7 @@ fn the_records_of_any_file_are_the_file() {
 
 /// Markets A and C of `docs/RULES.md`, and A's answer.
 fn answered() -> (Vec<u8>, Vec<u8>, Vec<u8>) {
-    let (a, c) = (
-        crate::examples::committed("A"),
-        crate::examples::committed("C"),
-    );
+    let (a, c) = (committed("A"), committed("C"));
     let mut area = [0; ANSWER_LIMIT];
     let written = clear(&a, &mut area).expect("an answer");
     (a, c, area[..written].to_vec())
@@ -145,6 +343,10 @@ fn bytes_that_are_no_answer_are_refused_with_their_first_fault() {
     for above_32 in [[2, 33, 0, 0, 0, 0, 0, 0], [1, 33, 1, 0, 0, 0, 0, 0]] {
         let decoded = Answer::decode(&above_32, &[0; 528]);
         assert_eq!(decoded, Err(NoAnswer::NoMarket));
+    }
+    for kind in [2, 6, 7] {
+        let three_members = [kind, 3, 0, 0, 0, 0, 0, 0];
+        assert_eq!(Answer::decode(&three_members, &[]), length(0, 48));
     }
     assert_eq!(Answer::decode(&a, &[]), length(0, 48));
     assert_eq!(Answer::decode(&a, &answer[..47]), length(47, 48));
@@ -197,13 +399,13 @@ fn no_bytes_make_decoding_panic() {
 fn a_refusal_says_what_is_wrong_and_where() {
     let member = Member(3);
     for (refusal, number, place, words) in [
-        (Refusal::TooLong, 1, 0, "more than 16,632 bytes"),
+        (Refusal::TooLong, 1, 0, "more than 33,016 bytes"),
         (Refusal::CutShort, 2, 0, "length not a multiple of 8"),
         (
             Refusal::UnknownKind { record: 5 },
             3,
             5,
-            "kind is neither 1 nor 2, in record 5",
+            "kind is none of 1, 2, 6 and 7, in record 5",
         ),
         (
             Refusal::WrongField { record: 5 },
@@ -243,6 +445,18 @@ fn a_refusal_says_what_is_wrong_and_where() {
             "answer area shorter than 48 bytes",
         ),
         (Refusal::Impossible, 12, 0, "no possible allocation"),
+        (
+            Refusal::HalfSpan { record: 4 },
+            13,
+            4,
+            "one end of a span without the other end beside it, in record 4",
+        ),
+        (
+            Refusal::WrongSpan { record: 4 },
+            14,
+            4,
+            "a span's lower end above its upper end, or its price out of range at an end, in record 4",
+        ),
     ] {
         assert_eq!((refusal.number(), refusal.place()), (number, place));
         let text = refusal.to_string();

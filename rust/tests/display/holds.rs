@@ -1,8 +1,8 @@
-//! What must be said of full and closed links, from two clearings of the test's own market.
+//! What must be said of full and closed links, from two clearings of a market, the second of its
+//! text with another capacity.
 
 use super::shown::words;
-use crate::common::{Link, Offer, Sheet};
-use clearing::{clear_file, Answer, Market};
+use clearing::{clear_market, Answer, Link, Market, Units};
 
 /// How often each case was met.
 #[derive(Debug, Default)]
@@ -39,42 +39,17 @@ impl Seen {
     }
 }
 
-/// The market of a file.
-pub fn sheet(file: &[u8]) -> Sheet {
-    let market = Market::from(file.to_vec());
-    let links = market.links().map(|link| {
-        let capacity = i64::from(link.capacity.0);
-        Link::between(link.a.0.into(), link.b.0.into(), capacity)
-    });
-    let offers = market.offers().map(|offer| Offer {
-        member: offer.member.0.into(),
-        units: offer.units.0.into(),
-        price: offer.price.0.into(),
-    });
-    let offers: Vec<Offer> = offers.collect();
-    let n = offers.iter().map(|offer| offer.member).max();
-    Sheet::new(n.expect("an offer"), links.collect(), offers)
-}
-
-fn answer(sheet: &Sheet) -> Answer {
-    clear_file(&sheet.records().concat()).expect("an answer")
-}
-
 /// The sentences about a market's full and closed links, in order.
-pub fn sentences(sheet: &Sheet, seen: &mut Seen) -> Vec<String> {
-    let now = answer(sheet);
+pub fn sentences(market: &Market, now: &Answer, seen: &mut Seen) -> Vec<String> {
     let mut sentences = Vec::new();
-    for (place, link) in sheet.links.iter().enumerate() {
-        let flow = i64::from(now.links()[place].flow.0);
-        if flow.abs() < link.capacity {
+    for (link, flow) in sorted_links(market).iter().zip(now.links()) {
+        if flow.flow.0.abs() < link.capacity.0 {
             continue;
         }
-        let mut wider = sheet.clone();
-        wider.links[place].capacity = 40;
-        let then = answer(&wider);
+        let then = clear_market(&widened(market, link)).expect("an answer");
         let gain = then.total().0 - now.total().0;
-        let sentence = sentence(link, &now, &then, seen);
-        sentences.push((link.capacity == 0, -gain, place, sentence));
+        let sentence = sentence(link, now, &then, seen);
+        sentences.push((link.capacity.0 == 0, -gain, link.a, link.b, sentence));
     }
     sentences.sort();
     match sentences.is_empty() {
@@ -86,14 +61,30 @@ pub fn sentences(sheet: &Sheet, seen: &mut Seen) -> Vec<String> {
     }
 }
 
+/// A market's links in the order of its answer.
+fn sorted_links(market: &Market) -> Vec<Link> {
+    let mut links: Vec<Link> = market.links().collect();
+    links.sort_by_key(|link| (link.a, link.b));
+    links
+}
+
+/// The market whose text has 40 in the line of a link, and is the same in all else.
+fn widened(market: &Market, link: &Link) -> Market {
+    let line = |capacity| format!("link {} {} {capacity}\n", link.a, link.b);
+    let text = market
+        .text()
+        .replace(&line(link.capacity), &line(Units(40)));
+    Market::from_text(text.as_bytes()).expect("a market")
+}
+
 fn sentence(link: &Link, now: &Answer, then: &Answer, seen: &mut Seen) -> String {
-    let state = match link.capacity {
+    let state = match link.capacity.0 {
         0 => "closed",
         _ => "full",
     };
-    seen.closed += u64::from(link.capacity == 0);
+    seen.closed += u64::from(link.capacity.0 == 0);
     let head = format!("link {}-{} is {state}", link.a, link.b);
-    if link.capacity == 40 {
+    if link.capacity.0 == 40 {
         seen.most += 1;
         return format!("{head} at 40 units, the most that a link can have");
     }

@@ -11,6 +11,8 @@ bin/market bytes [FILE]    writes the bytes of such lines
 
     link A B CAPACITY         a link between members A and B
     offer MEMBER UNITS PRICE  an entry of a member's table; units below 0 are sold
+    lower MEMBER UNITS BASE   where a span begins: an entry for each number of units up to its end
+    upper MEMBER UNITS SLOPE  where it ends, always the next line; a price is SLOPE times units + BASE
     bytes XX XX ...           anything else, in hexadecimal
 
 FILE is standard input where it is - or missing. Blank lines, and what follows a #, are passed over.
