@@ -2,7 +2,6 @@
 //! recursion over members.
 
 use crate::common::{upward, Sheet};
-use std::collections::HashMap;
 use std::ops::RangeInclusive;
 
 /// The highest total of a market; none where no allocation is possible.
@@ -40,10 +39,10 @@ fn best_within(sheet: &Sheet, ranges: &[RangeInclusive<i64>]) -> Option<i64> {
 struct Recursion {
     /// For each member, those reached from it, the last one first, with their upward flows.
     below: Vec<Vec<(usize, RangeInclusive<i64>)>>,
-    /// For each member, the highest price of each number of units.
-    tables: Vec<HashMap<i64, i64>>,
     /// For each member, the most that its links carry together.
     reach: Vec<i64>,
+    /// For each member, the highest price of each number of units that its links can carry.
+    tables: Vec<Vec<Option<i64>>>,
     /// What `best` gave for each member, place and number of units.
     memo: Vec<Vec<Vec<Option<Option<i64>>>>>,
 }
@@ -54,25 +53,15 @@ impl Recursion {
         for (step, range) in sheet.walk().into_iter().zip(ranges) {
             below[step.from].insert(0, (step.member, range.clone()));
         }
-        let mut tables = vec![HashMap::new(); sheet.n + 1];
-        for offer in &sheet.offers {
-            let table = &mut tables[offer.member];
-            let highest = table.entry(offer.units).or_insert(offer.price);
-            *highest = offer.price.max(*highest);
-        }
-        let mut reach = vec![0; sheet.n + 1];
-        for link in &sheet.links {
-            reach[link.a] += link.capacity;
-            reach[link.b] += link.capacity;
-        }
+        let reach = reach(sheet);
         let unknown = |member: usize| {
             let width = 2 * reach[member] as usize + 1;
             vec![vec![None; width]; below[member].len()]
         };
         let memo = (0..=sheet.n).map(unknown).collect();
         Recursion {
+            tables: tables(sheet, &reach),
             below,
-            tables,
             reach,
             memo,
         }
@@ -81,10 +70,10 @@ impl Recursion {
     /// The highest total of the member and of those below it from `place` on, where its other links
     /// bring it `brought` units.
     fn best(&mut self, member: usize, place: usize, brought: i64) -> Option<i64> {
-        let Some((next, range)) = self.below[member].get(place).cloned() else {
-            return self.tables[member].get(&brought).copied();
-        };
         let at = (brought + self.reach[member]) as usize;
+        let Some((next, range)) = self.below[member].get(place).cloned() else {
+            return self.tables[member][at];
+        };
         if let Some(known) = self.memo[member][place][at] {
             return known;
         }
@@ -98,6 +87,36 @@ impl Recursion {
         self.memo[member][place][at] = Some(best);
         best
     }
+}
+
+fn reach(sheet: &Sheet) -> Vec<i64> {
+    let mut reach = vec![0; sheet.n + 1];
+    for link in &sheet.links {
+        reach[link.a] += link.capacity;
+        reach[link.b] += link.capacity;
+    }
+    reach
+}
+
+fn tables(sheet: &Sheet, reach: &[i64]) -> Vec<Vec<Option<i64>>> {
+    let empty = |reach: &i64| vec![None; 2 * *reach as usize + 1];
+    let mut tables: Vec<Vec<Option<i64>>> = reach.iter().map(empty).collect();
+    let mut offer = |member: usize, units: i64, price: i64| {
+        let highest = &mut tables[member][(units + reach[member]) as usize];
+        *highest = Some(price).max(*highest);
+    };
+    for point in &sheet.offers {
+        if point.units.abs() <= reach[point.member] {
+            offer(point.member, point.units, point.price);
+        }
+    }
+    for span in &sheet.spans {
+        let most = reach[span.member];
+        for units in span.low.max(-most)..=span.high.min(most) {
+            offer(span.member, units, span.slope * units + span.base);
+        }
+    }
+    tables
 }
 
 /// Fails unless the answer's bytes are those of a possible allocation with the given total. Gives
