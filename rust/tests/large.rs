@@ -1,6 +1,6 @@
 //! Markets of the largest size, 32 members with 64 offers each and capacities of 40, of points, of
-//! spans, and of both, often with several prices for the same units, against the recursion of
-//! `dynamic`: the total, that the answer is possible, and the tie rule.
+//! spans, and of both, often with several prices for the same units, against the tables that `dynamic`
+//! joins: the total, that the answer is possible, and the tie rule.
 
 use crate::common::{cases, cleared, Link, Offer, Random, Sheet, Span, FILE_LIMIT};
 use crate::dynamic::{beaten_at, best_total, possible_with};
@@ -119,14 +119,14 @@ pub fn random_sheet(tables: Tables, shape: Shape, random: &mut Random) -> Sheet 
 }
 
 #[test]
-fn large_markets_clear_as_the_recursion_says() {
+fn large_markets_clear_as_the_joined_tables_say() {
     let mut shapes = [0; 3];
     let mut made_of = [0; 3];
     let mut impossible = 0;
     let mut several = 0;
     let mut inside = 0;
     let mut longest = 0;
-    let count = cases("CLEARING_LARGE", 90, |random| {
+    let count = cases("CLEARING_LARGE", 150, |random| {
         let shape = random.pick(&[Shape::Star, Shape::Chain, Shape::Tree]);
         let tables = random.pick(&[Tables::Points, Tables::Spans, Tables::Both]);
         let sheet = random_sheet(tables, shape, random);
