@@ -35,10 +35,10 @@ fn refused_bytes(file: &[u8]) -> (u64, u64) {
 
 #[test]
 fn the_length_comes_first() {
-    assert_eq!(refused_bytes(&[2; 16_633]), (1, 0));
-    assert_eq!(refused_bytes(&[2; 16_640]), (1, 0));
-    assert_eq!(refused_bytes(&[2; 16_631]), (2, 0));
-    assert_eq!(refused_bytes(&[3; 16_632]), (3, 0));
+    assert_eq!(refused_bytes(&[2; 33_017]), (1, 0));
+    assert_eq!(refused_bytes(&[2; 33_024]), (1, 0));
+    assert_eq!(refused_bytes(&[2; 33_015]), (2, 0));
+    assert_eq!(refused_bytes(&[3; 33_016]), (3, 0));
     assert_eq!(refused_bytes(&[3]), (2, 0));
 }
 
@@ -85,7 +85,7 @@ fn a_ring_comes_before_a_member_apart() {
         refused(&[link(2, 3), idle(1), idle(2), idle(3), closed]),
         (9, 4)
     );
-    let links = [vec![idle(1), idle(2)], vec![link(1, 2); 2077]].concat();
+    let links = [vec![idle(1), idle(2)], vec![link(1, 2); 4125]].concat();
     assert_eq!(refused(&links), (9, 3));
 }
 

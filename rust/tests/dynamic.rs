@@ -1,8 +1,8 @@
-//! The highest total of a market on a tree, and whether an answer keeps the tie rule, by a memoised
-//! recursion over members.
+//! The highest total of a market on a tree, and whether an answer keeps the tie rule: along the walk
+//! from its end, each member's table with all that is reached from it is joined to the table of the
+//! member that it was reached from.
 
 use crate::common::{upward, Sheet};
-use std::collections::HashMap;
 use std::ops::RangeInclusive;
 
 /// The highest total of a market; none where no allocation is possible.
@@ -34,70 +34,73 @@ fn every_flow(sheet: &Sheet) -> Vec<RangeInclusive<i64>> {
 
 /// The highest total of the allocations whose upward flows lie in `ranges`, in walk order.
 fn best_within(sheet: &Sheet, ranges: &[RangeInclusive<i64>]) -> Option<i64> {
-    Recursion::new(sheet, ranges).best(1, 0, 0)
+    let mut rows = tables(sheet);
+    for (step, range) in sheet.walk().iter().zip(ranges).rev() {
+        rows[step.from] = rows[step.from].joined(&rows[step.member], range.clone());
+    }
+    rows[1].at(0)
 }
 
-struct Recursion {
-    /// For each member, those reached from it, the last one first, with their upward flows.
-    below: Vec<Vec<(usize, RangeInclusive<i64>)>>,
-    /// For each member, the highest price of each number of units.
-    tables: Vec<HashMap<i64, i64>>,
-    /// For each member, the most that its links carry together.
-    reach: Vec<i64>,
-    /// What `best` gave for each member, place and number of units.
-    memo: Vec<Vec<Vec<Option<Option<i64>>>>>,
+/// The highest totals of a member and of the branches joined to it, by the units that its other
+/// links bring it, from `-reach` to `reach`.
+#[derive(Clone)]
+struct Row {
+    reach: i64,
+    totals: Vec<Option<i64>>,
 }
 
-impl Recursion {
-    fn new(sheet: &Sheet, ranges: &[RangeInclusive<i64>]) -> Recursion {
-        let mut below = vec![Vec::new(); sheet.n + 1];
-        for (step, range) in sheet.walk().into_iter().zip(ranges) {
-            below[step.from].insert(0, (step.member, range.clone()));
-        }
-        let mut tables = vec![HashMap::new(); sheet.n + 1];
-        for offer in &sheet.offers {
-            let table = &mut tables[offer.member];
-            let highest = table.entry(offer.units).or_insert(offer.price);
-            *highest = offer.price.max(*highest);
-        }
-        let mut reach = vec![0; sheet.n + 1];
-        for link in &sheet.links {
-            reach[link.a] += link.capacity;
-            reach[link.b] += link.capacity;
-        }
-        let unknown = |member: usize| {
-            let width = 2 * reach[member] as usize + 1;
-            vec![vec![None; width]; below[member].len()]
-        };
-        let memo = (0..=sheet.n).map(unknown).collect();
-        Recursion {
-            below,
-            tables,
-            reach,
-            memo,
+impl Row {
+    fn empty(reach: i64) -> Row {
+        let totals = vec![None; 2 * reach as usize + 1];
+        Row { reach, totals }
+    }
+
+    fn at(&self, brought: i64) -> Option<i64> {
+        self.totals[(brought + self.reach) as usize]
+    }
+
+    fn raise(&mut self, brought: i64, total: i64) {
+        if brought.abs() <= self.reach {
+            let highest = &mut self.totals[(brought + self.reach) as usize];
+            *highest = Some(total).max(*highest);
         }
     }
 
-    /// The highest total of the member and of those below it from `place` on, where its other links
-    /// bring it `brought` units.
-    fn best(&mut self, member: usize, place: usize, brought: i64) -> Option<i64> {
-        let Some((next, range)) = self.below[member].get(place).cloned() else {
-            return self.tables[member].get(&brought).copied();
-        };
-        let at = (brought + self.reach[member]) as usize;
-        if let Some(known) = self.memo[member][place][at] {
-            return known;
-        }
-        let mut best = None;
+    /// The row with a branch joined to it, whose upward flow lies in `range`.
+    fn joined(&self, branch: &Row, range: RangeInclusive<i64>) -> Row {
+        let mut joined = Row::empty(self.reach);
         for up in range {
-            if let Some(branch) = self.best(next, 0, -up) {
-                let rest = self.best(member, place + 1, brought + up);
-                best = best.max(rest.map(|rest| branch + rest));
+            let Some(below) = branch.at(-up) else {
+                continue;
+            };
+            for (brought, total) in (-self.reach..).zip(&self.totals) {
+                if let Some(total) = total {
+                    joined.raise(brought - up, below + total);
+                }
             }
         }
-        self.memo[member][place][at] = Some(best);
-        best
+        joined
     }
+}
+
+/// For each member, the highest price of each number of units that its links can bring.
+fn tables(sheet: &Sheet) -> Vec<Row> {
+    let mut reach = vec![0; sheet.n + 1];
+    for link in &sheet.links {
+        reach[link.a] += link.capacity;
+        reach[link.b] += link.capacity;
+    }
+    let mut tables: Vec<Row> = reach.into_iter().map(Row::empty).collect();
+    for offer in &sheet.offers {
+        tables[offer.member].raise(offer.units, offer.price);
+    }
+    for span in &sheet.spans {
+        let table = &mut tables[span.member];
+        for units in span.low.max(-table.reach)..=span.high.min(table.reach) {
+            table.raise(units, span.slope * units + span.base);
+        }
+    }
+    tables
 }
 
 /// Fails unless the answer's bytes are those of a possible allocation with the given total. Gives

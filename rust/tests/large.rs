@@ -1,8 +1,8 @@
-//! Markets of the largest size, 32 members with 64 offers each and capacities of 40, often with several
-//! entries for the same units, against the recursion of `dynamic`: the total, that the answer is
-//! possible, and the tie rule.
+//! Markets of the largest size, 32 members with 64 offers each and capacities of 40, of points, of
+//! spans, and of both, often with several prices for the same units, against the tables that `dynamic`
+//! joins: the total, that the answer is possible, and the tie rule.
 
-use crate::common::{cases, cleared, Link, Offer, Random, Sheet};
+use crate::common::{cases, cleared, Link, Offer, Random, Sheet, Span, FILE_LIMIT};
 use crate::dynamic::{beaten_at, best_total, possible_with};
 
 const MEMBERS: usize = 32;
@@ -64,17 +64,74 @@ pub fn random_offers(random: &mut Random) -> Vec<Offer> {
     offers
 }
 
+fn random_spans(random: &mut Random) -> Vec<Span> {
+    let (reach, width) = random.pick(&[(40, 0), (60, 3), (130, 30), (2000, 400), (2000, 4000)]);
+    let lowest = match random.below(12) {
+        0 => 1,
+        _ => -reach,
+    };
+    let (rate, bend, noise) = random.pick(&[
+        (0, 0, 0),
+        (0, 1, 2),
+        (30, 10, 10),
+        (300, 199, 900),
+        (0, 0, 1_000_000),
+    ]);
+    let mut spans = Vec::new();
+    for member in 1..=MEMBERS {
+        for _ in 0..OFFERS {
+            let low = random.between(lowest, reach);
+            spans.push(Span {
+                member,
+                low,
+                high: random.between(low, (low + width).min(2000)),
+                slope: random.between(-bend, bend) - rate,
+                base: random.between(-noise, noise),
+            });
+        }
+    }
+    spans
+}
+
+/// What a market's tables are made of.
+#[derive(Clone, Copy)]
+pub enum Tables {
+    Points,
+    Spans,
+    Both,
+}
+
+pub fn random_sheet(tables: Tables, shape: Shape, random: &mut Random) -> Sheet {
+    let mut sheet = Sheet::new(MEMBERS, random_links(shape, random), Vec::new());
+    let points = random_offers(random);
+    for (point, span) in points.into_iter().zip(random_spans(random)) {
+        let is_point = match tables {
+            Tables::Points => true,
+            Tables::Spans => false,
+            Tables::Both => random.one_in(2),
+        };
+        match is_point {
+            true => sheet.offers.push(point),
+            false => sheet.spans.push(span),
+        }
+    }
+    sheet
+}
+
 #[test]
-fn large_markets_clear_as_the_recursion_says() {
+fn large_markets_clear_as_the_joined_tables_say() {
     let mut shapes = [0; 3];
+    let mut made_of = [0; 3];
     let mut impossible = 0;
     let mut several = 0;
-    let count = cases("CLEARING_LARGE", 90, |random| {
+    let mut inside = 0;
+    let mut longest = 0;
+    let count = cases("CLEARING_LARGE", 150, |random| {
         let shape = random.pick(&[Shape::Star, Shape::Chain, Shape::Tree]);
-        shapes[shape as usize] += 1;
-        let links = random_links(shape, random);
-        let sheet = Sheet::new(MEMBERS, links, random_offers(random));
+        let tables = random.pick(&[Tables::Points, Tables::Spans, Tables::Both]);
+        let sheet = random_sheet(tables, shape, random);
         let file = sheet.file(random);
+        longest += u64::from(file.len() == FILE_LIMIT);
         let result = cleared(&file, 512 + random.below(2), random);
         let Some(total) = best_total(&sheet) else {
             impossible += 1;
@@ -83,23 +140,29 @@ fn large_markets_clear_as_the_recursion_says() {
         };
         let answer = result.expect("an answer, since an allocation is possible");
         let flows = possible_with(&sheet, total, &answer);
+        shapes[shape as usize] += 1;
+        made_of[tables as usize] += 1;
         several += u64::from(sheet.has_several_prices(&flows));
+        inside += u64::from(sheet.has_net_inside_a_span(&flows));
         assert_eq!(beaten_at(&sheet, &flows, total), None, "the tie rule");
     });
-    for seen in shapes {
+    let [stars, chains, trees] = shapes;
+    let [points, spans, both] = made_of;
+    for (seen, least, what) in [
+        (stars, 20, "a star with an answer"),
+        (chains, 20, "a chain with an answer"),
+        (trees, 20, "another tree with an answer"),
+        (points, 20, "of points, with an answer"),
+        (spans, 20, "of spans, with an answer"),
+        (both, 20, "of points and spans, with an answer"),
+        (impossible, 90, "without an allocation"),
+        (longest, 20, "of the most records that a file has"),
+        (several, 10, "with several prices for a net of the answer"),
+        (inside, 10, "with a net inside a span alone"),
+    ] {
         assert!(
-            seen >= count / 20,
-            "{shapes:?} stars, chains and other trees"
+            seen >= count / least,
+            "{seen} of {count} markets are {what}"
         );
     }
-    let possible = count - impossible;
-    assert!(
-        impossible >= count / 90,
-        "{impossible} without an allocation"
-    );
-    assert!(possible >= count / 4, "{possible} with an allocation");
-    assert!(
-        several >= count / 10,
-        "{several} with several prices for a net of the answer"
-    );
 }

@@ -1,165 +1,211 @@
-//! Random and damaged files against a reading of `docs/RULES.md`, "Refusals", written for this test
-//! alone.
+//! Random and damaged files against the reading of `reading`, with a count of the cases met.
 
-use crate::common::{cases, cleared, Link, Offer, Sheet};
+use crate::common::{cases, cleared, Span};
 use crate::dynamic::{best_total, possible_with};
-use crate::files::{random_file, FILE_LIMIT};
+use crate::files::random_file;
+use crate::reading::{faults, is_price, read_file, span, Records, Refusal};
 use std::collections::{BTreeMap, HashSet};
 
-type Refusal = (u64, u64);
-
-/// The links and the offers of a file, each with its record's place.
-struct Records {
-    links: Vec<(u64, Link)>,
-    offers: Vec<(u64, Offer)>,
+/// What a file can be a case of.
+#[derive(Clone, Copy, Debug, PartialEq, Eq, PartialOrd, Ord)]
+enum Case {
+    /// The refusal is given; 0 is none.
+    Given(u64),
+    /// Both have their case, and the first is given.
+    Both(u64, u64),
+    /// Both have their case in one record, and the first is given there.
+    InOneRecord(u64, u64),
+    /// The first is given at a record, and the second has its case in the next one.
+    InNeighbours(u64, u64),
+    /// Refusal 13 is given at a record of the first kind, 6 or 7. Where its span's other record
+    /// should be there is one of the second kind, 0 for every kind unknown, or none.
+    Alone(u8, Option<u8>),
+    /// Refusal 14 is given, and this is so of its span.
+    BadSpan(Fault),
+    /// The file has so many records.
+    Records(usize),
+    /// No record is at fault, and a span's price is at an end of the range.
+    PriceAtTheEnd,
+    /// No record is at fault, and a span's slope times an end is past 32 bits.
+    ProductPast32Bits,
+    /// The market is cleared, and a point repeats another's member and units.
+    ClearedRepeat,
+    /// The market is cleared, and has a span.
+    ClearedSpan,
 }
 
-enum Record {
-    Link(Link),
-    Offer(Offer),
+/// What can be wrong with a span.
+#[derive(Clone, Copy, Debug, PartialEq, Eq, PartialOrd, Ord)]
+enum Fault {
+    /// The low end is above the high one, and both prices are in range.
+    Turned,
+    LowPriceAlone,
+    HighPriceAlone,
+    /// One price is just past the range, and the other one is no farther out.
+    PriceJustPast,
+    /// Prices out of range that would be in range if they were reckoned in 32 bits.
+    PricePast32Bits,
 }
 
-/// Refusals 1 to 4.
-fn read_file(file: &[u8]) -> Result<Records, Refusal> {
-    if file.len() > FILE_LIMIT {
-        return Err((1, 0));
+/// The cases that stand in the reading of a file's records.
+fn cases_of_records(file: &[u8], read: &Result<Records, Refusal>) -> Vec<Case> {
+    let mut cases = match read {
+        Ok(records) => sound_cases(&records.spans),
+        Err((3 | 4 | 13 | 14, place)) => {
+            let records: Vec<&[u8]> = file.chunks(8).collect();
+            faulty_cases(&records, *place as usize)
+        }
+        Err(_) => Vec::new(),
+    };
+    if file.len().is_multiple_of(8) {
+        cases.push(Case::Records(file.len() / 8));
     }
-    if !file.len().is_multiple_of(8) {
-        return Err((2, 0));
+    cases
+}
+
+fn sound_cases(spans: &[Span]) -> Vec<Case> {
+    let any_end = |is_such: &dyn Fn(&Span, i64) -> bool| {
+        let mut spans = spans.iter();
+        spans.any(|span| is_such(span, span.low) || is_such(span, span.high))
+    };
+    let cases = [
+        (
+            Case::PriceAtTheEnd,
+            any_end(&|span, end| span.price(end).abs() == 1_000_000),
+        ),
+        (
+            Case::ProductPast32Bits,
+            any_end(&|span, end| i32::try_from(span.slope * end).is_err()),
+        ),
+    ];
+    of_these(cases)
+}
+
+/// The cases of a file whose first record at fault has this place.
+fn faulty_cases(records: &[&[u8]], place: usize) -> Vec<Case> {
+    let found = faults(records, place);
+    let number = found[0];
+    let mut cases = Vec::new();
+    for other in &found[1..] {
+        cases.push(Case::InOneRecord(number, *other));
     }
-    let mut links = Vec::new();
-    let mut offers = Vec::new();
-    for (place, bytes) in (0..).zip(file.chunks(8)) {
-        match read_record(bytes) {
-            Ok(Record::Link(link)) => links.push((place, link)),
-            Ok(Record::Offer(offer)) => offers.push((place, offer)),
-            Err(number) => return Err((number, place)),
+    if place + 1 < records.len() {
+        let next = faults(records, place + 1).into_iter();
+        cases.extend(next.map(|other| Case::InNeighbours(number, other)));
+    }
+    match number {
+        13 => cases.push(alone(records, place)),
+        14 => {
+            let found = span_faults(&span(records[place - 1], records[place]));
+            cases.extend(found.into_iter().map(Case::BadSpan));
+        }
+        _ => {}
+    }
+    cases
+}
+
+fn alone(records: &[&[u8]], place: usize) -> Case {
+    let kind = records[place][0];
+    let beside = match kind {
+        6 => records.get(place + 1),
+        _ => place.checked_sub(1).map(|place| &records[place]),
+    };
+    let kinds = [1, 2, 6, 7];
+    let known = |record: &&[u8]| kinds.into_iter().find(|kind| record[0] == *kind);
+    Case::Alone(kind, beside.map(|record| known(record).unwrap_or(0)))
+}
+
+fn span_faults(span: &Span) -> Vec<Fault> {
+    let turned = span.low > span.high;
+    let (low, high) = (span.price(span.low), span.price(span.high));
+    let in_32_bits = |price: i64| is_price(i64::from(price as i32));
+    let cases = [
+        (Fault::Turned, turned && is_price(low) && is_price(high)),
+        (
+            Fault::LowPriceAlone,
+            !turned && !is_price(low) && is_price(high),
+        ),
+        (
+            Fault::HighPriceAlone,
+            !turned && is_price(low) && !is_price(high),
+        ),
+        (
+            Fault::PriceJustPast,
+            !turned && low.abs().max(high.abs()) == 1_000_001,
+        ),
+        (
+            Fault::PricePast32Bits,
+            !turned && in_32_bits(low) && in_32_bits(high),
+        ),
+    ];
+    of_these(cases)
+}
+
+fn of_these<C, const N: usize>(cases: [(C, bool); N]) -> Vec<C> {
+    let found = cases.into_iter().filter(|(_, found)| *found);
+    found.map(|(case, _)| case).collect()
+}
+
+fn repeat_a_point(records: &Records) -> bool {
+    let mut seen = HashSet::new();
+    let mut points = records.offers.iter();
+    points.any(|offer| !seen.insert((offer.member, offer.units)))
+}
+
+/// Each case that must be met, and in how many files one of them.
+fn to_be_met() -> Vec<(Case, u64)> {
+    let numbers = (0..=14).filter(|&number| number != 8);
+    let mut cases: Vec<(Case, u64)> = numbers.map(|number| (Case::Given(number), 1000)).collect();
+    for (first, others) in [
+        (5, &[6, 9, 10, 11][..]),
+        (6, &[7, 9, 10, 11]),
+        (7, &[9, 10, 11]),
+        (9, &[10, 11]),
+        (10, &[11]),
+        (11, &[12]),
+    ] {
+        cases.extend(
+            others
+                .iter()
+                .map(|&other| (Case::Both(first, other), 10_000)),
+        );
+    }
+    for (first, other) in [(4, 13), (4, 14), (13, 14)] {
+        cases.push((Case::InOneRecord(first, other), 10_000));
+    }
+    for first in [3, 4, 13, 14] {
+        for other in [3, 4, 13, 14] {
+            cases.push((Case::InNeighbours(first, other), 10_000));
         }
     }
-    Ok(Records { links, offers })
+    for beside in [None, Some(0), Some(1), Some(2), Some(6), Some(7)] {
+        cases.push((Case::Alone(6, beside), 10_000));
+    }
+    for beside in [None, Some(1), Some(2), Some(7)] {
+        cases.push((Case::Alone(7, beside), 10_000));
+    }
+    for fault in [
+        Fault::Turned,
+        Fault::LowPriceAlone,
+        Fault::HighPriceAlone,
+        Fault::PriceJustPast,
+        Fault::PricePast32Bits,
+    ] {
+        cases.push((Case::BadSpan(fault), 2000));
+    }
+    cases.extend([4126, 4127, 4128].map(|count| (Case::Records(count), 20_000)));
+    cases.extend([
+        (Case::PriceAtTheEnd, 1000),
+        (Case::ProductPast32Bits, 2000),
+        (Case::ClearedRepeat, 100),
+        (Case::ClearedSpan, 20),
+    ]);
+    cases
 }
-
-fn read_record(bytes: &[u8]) -> Result<Record, u64> {
-    let is_member = |byte: u8| (1..=32).contains(&byte);
-    match bytes[0] {
-        1 => {
-            let (a, b) = (bytes[1], bytes[2]);
-            let capacity = i64::from(bytes[4]) + 256 * i64::from(bytes[5]);
-            let zeros = [bytes[3], bytes[6], bytes[7]] == [0, 0, 0];
-            if !is_member(a) || !is_member(b) || a >= b || !zeros || capacity > 40 {
-                return Err(4);
-            }
-            Ok(Record::Link(Link::between(a.into(), b.into(), capacity)))
-        }
-        2 => {
-            let units = i16::from_le_bytes([bytes[2], bytes[3]]);
-            let price = i32::from_le_bytes([bytes[4], bytes[5], bytes[6], bytes[7]]);
-            let in_range =
-                (-2000..=2000).contains(&units) && (-1_000_000..=1_000_000).contains(&price);
-            if !is_member(bytes[1]) || !in_range {
-                return Err(4);
-            }
-            Ok(Record::Offer(Offer {
-                member: bytes[1].into(),
-                units: units.into(),
-                price: price.into(),
-            }))
-        }
-        _ => Err(3),
-    }
-}
-
-impl Records {
-    /// The highest member number in any record.
-    fn n(&self) -> usize {
-        let in_links = self.links.iter().map(|(_, link)| link.b);
-        let in_offers = self.offers.iter().map(|(_, offer)| offer.member);
-        in_links.chain(in_offers).max().unwrap_or(0)
-    }
-
-    fn sheet(&self) -> Sheet {
-        let links = self.links.iter().map(|(_, link)| *link).collect();
-        let offers = self.offers.iter().map(|(_, offer)| *offer).collect();
-        Sheet::new(self.n(), links, offers)
-    }
-
-    /// Whether an offer repeats another's member and units.
-    fn repeat_an_offer(&self) -> bool {
-        let mut seen = HashSet::new();
-        let mut offers = self.offers.iter();
-        offers.any(|(_, offer)| !seen.insert((offer.member, offer.units)))
-    }
-
-    /// Each of refusals 5 to 11 that has a case here, whether or not a lower one has.
-    fn refusals(&self, room: usize) -> Vec<Refusal> {
-        let n = self.n();
-        let count = |member: usize| {
-            let offers = self.offers.iter();
-            offers.filter(|(_, offer)| offer.member == member).count()
-        };
-        let lowest =
-            |wrong: &dyn Fn(usize) -> bool| (1..=n).find(|&member| wrong(member)).map(|m| m as u64);
-        let closing = (0..self.links.len()).find(|&i| {
-            let (_, link) = self.links[i];
-            joined_to(link.a, &self.links[..i]).contains(&link.b)
-        });
-        let joined = joined_to(1, &self.links);
-        let cases = [
-            (5, self.offers.is_empty().then_some(0)),
-            (6, lowest(&|member| count(member) == 0)),
-            (7, lowest(&|member| count(member) > 64)),
-            (9, closing.map(|i| self.links[i].0)),
-            (10, lowest(&|member| !joined.contains(&member))),
-            (11, (room < 16 * n).then_some(16 * n as u64)),
-        ];
-        let given = cases.into_iter();
-        given
-            .filter_map(|(number, place)| Some((number, place?)))
-            .collect()
-    }
-}
-
-/// The members that links join to the given one, itself among them.
-fn joined_to(member: usize, links: &[(u64, Link)]) -> HashSet<usize> {
-    let mut joined = HashSet::from([member]);
-    loop {
-        let before = joined.len();
-        for (_, link) in links {
-            if joined.contains(&link.a) || joined.contains(&link.b) {
-                joined.extend([link.a, link.b]);
-            }
-        }
-        if joined.len() == before {
-            return joined;
-        }
-    }
-}
-
-/// Pairs of refusals that can have their case in one file, the lower one given.
-const TOGETHER: [(u64, u64); 15] = [
-    (5, 6),
-    (5, 9),
-    (5, 10),
-    (5, 11),
-    (6, 7),
-    (6, 9),
-    (6, 10),
-    (6, 11),
-    (7, 9),
-    (7, 10),
-    (7, 11),
-    (9, 10),
-    (9, 11),
-    (10, 11),
-    (11, 12),
-];
 
 #[test]
 fn every_file_is_refused_as_the_table_says() {
-    let mut given = BTreeMap::new();
-    let mut together = BTreeMap::new();
-    let mut sizes = BTreeMap::new();
-    let mut repeats = 0;
+    let mut met = BTreeMap::new();
     let count = cases("CLEARING_FILES", 250_000, |random| {
         let file = random_file(random);
         let read = read_file(&file);
@@ -181,47 +227,32 @@ fn every_file_is_refused_as_the_table_says() {
                 refusals.push((12, 0));
             }
         }
+        let mut found = cases_of_records(&file, &read);
         let result = cleared(&file, room, random);
         match (refusals.first(), &read, total) {
             (None, Ok(records), Some(total)) => {
                 let answer = result.expect("an answer, since no refusal has its case");
                 possible_with(&records.sheet(), total, &answer);
-                repeats += u64::from(records.repeat_an_offer());
+                found.extend(of_these([
+                    (Case::ClearedRepeat, repeat_a_point(records)),
+                    (Case::ClearedSpan, !records.spans.is_empty()),
+                ]));
             }
             (refusal, ..) => assert_eq!(result.err().as_ref(), refusal),
         }
         let first = refusals.first().map_or(0, |(number, _)| *number);
-        *given.entry(first).or_insert(0) += 1;
-        for (number, _) in refusals.iter().skip(1) {
-            *together.entry((first, *number)).or_insert(0) += 1;
+        found.push(Case::Given(first));
+        let others = refusals.iter().skip(1);
+        found.extend(others.map(|(number, _)| Case::Both(first, *number)));
+        for case in found {
+            *met.entry(case).or_insert(0) += 1;
         }
-        let size = file.len().saturating_sub(FILE_LIMIT - 8).min(17);
-        *sizes.entry(size).or_insert(0) += 1;
     });
-    let at_least = |seen: Option<&u64>, least: u64, what: String| {
-        let seen = seen.copied().unwrap_or(0);
-        assert!(seen >= least, "{seen} of {count} files {what}");
-    };
-    for number in (0..=12).filter(|&number| number != 8) {
-        let seen = given.get(&number);
-        at_least(seen, count / 1000, format!("with refusal {number}"));
-    }
-    let cleared = "cleared with repeated offers".to_string();
-    at_least(Some(&repeats), count / 100, cleared);
-    for (first, other) in TOGETHER {
-        let seen = together.get(&(first, other));
-        at_least(
-            seen,
-            count / 10_000,
-            format!("with refusals {first} and {other}"),
-        );
-    }
-    for size in [8, 16] {
-        let bytes = FILE_LIMIT - 8 + size;
-        at_least(
-            sizes.get(&size),
-            count / 20_000,
-            format!("of {bytes} bytes"),
+    for (case, one_in) in to_be_met() {
+        let seen = met.get(&case).copied().unwrap_or(0);
+        assert!(
+            seen >= count / one_in,
+            "{case:?} in {seen} of {count} files"
         );
     }
 }

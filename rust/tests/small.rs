@@ -1,6 +1,6 @@
 //! Random small markets against a search that tries every flow on every link.
 
-use crate::common::{cases, cleared, upward, Link, Offer, Random, Sheet};
+use crate::common::{cases, cleared, upward, Link, Offer, Random, Sheet, Span};
 
 /// The most combinations of flows that the search tries.
 const MOST_TRIED: i64 = 3000;
@@ -8,6 +8,16 @@ const MOST_TRIED: i64 = 3000;
 /// A market of at most six members on a tree, with few units and few prices, so that many
 /// allocations have the same total. A table may have several entries for the same units.
 pub fn random_sheet(random: &mut Random) -> Sheet {
+    random_market(0, random)
+}
+
+/// Such a market with spans, beside the points of a member or in their place.
+pub fn random_sheet_with_spans(random: &mut Random) -> Sheet {
+    let most_spans = random.pick(&[1, 2, 6]);
+    random_market(most_spans, random)
+}
+
+fn random_market(most_spans: usize, random: &mut Random) -> Sheet {
     let n = 1 + random.below(6);
     let mut members: Vec<usize> = (1..=n).collect();
     random.shuffle(&mut members);
@@ -26,7 +36,13 @@ pub fn random_sheet(random: &mut Random) -> Sheet {
     let idle_missing = random.pick(&[1, 3, 100]);
     let most_repeats = random.pick(&[0, 0, 2, 9]);
     let mut offers = Vec::new();
+    let mut spans = Vec::new();
     for member in 1..=n {
+        let count = random.below(most_spans + 1);
+        spans.extend((0..count).map(|_| random_span(member, most_units, price_step, random)));
+        if count > 0 && random.one_in(3) {
+            continue;
+        }
         let mut table: Vec<i64> = (-most_units..=most_units).collect();
         table.extend([-2000, 2000]);
         random.shuffle(&mut table);
@@ -43,7 +59,51 @@ pub fn random_sheet(random: &mut Random) -> Sheet {
             price: price_step * random.between(-3, 3),
         }));
     }
-    Sheet::new(n, links, offers)
+    Sheet {
+        spans,
+        ..Sheet::new(n, links, offers)
+    }
+}
+
+/// A span over one number of units, a few, all of them, or none in reach. Over one its line may be as
+/// steep as 32 bits can say.
+fn random_span(member: usize, most_units: i64, price_step: i64, random: &mut Random) -> Span {
+    loop {
+        let near = random.between(-most_units, most_units);
+        let other = random.between(-most_units, most_units);
+        let (low, high) = random.pick(&[
+            (near, near),
+            (near.min(other), near.max(other)),
+            (-most_units, most_units),
+            (-2000, 2000),
+            (-2000, -1000),
+            (20, 2000),
+        ]);
+        let steep = random.pick(&[i64::from(i32::MIN), i64::from(i32::MAX), 1 << 30]);
+        let slope = match low == high && random.one_in(2) {
+            true => steep,
+            false => price_step * random.between(-6, 6),
+        };
+        let price = price_step * random.between(-3, 3);
+        let span = Span {
+            member,
+            low,
+            high,
+            slope,
+            base: price - slope * near.clamp(low, high),
+        };
+        if is_sound(&span) {
+            return span;
+        }
+    }
+}
+
+/// Whether the span's prices and its base keep to their ranges.
+fn is_sound(span: &Span) -> bool {
+    let is_price = |price: i64| price.abs() <= 1_000_000;
+    is_price(span.price(span.low))
+        && is_price(span.price(span.high))
+        && i32::try_from(span.base).is_ok()
 }
 
 /// What the search finds: the highest total, how many allocations have it, and of those the flows
@@ -100,6 +160,36 @@ fn total(sheet: &Sheet, flows: &[i64]) -> Option<i64> {
     Some(total)
 }
 
+/// Whether a point gives the value of a net, and a span holds the net at a lower price.
+fn has_point_above_a_line(sheet: &Sheet, flows: &[i64]) -> bool {
+    sheet.has_net(flows, |member, net| {
+        let line = sheet
+            .spans_at(member, net)
+            .map(|span| span.price(net))
+            .max();
+        line.is_some() && sheet.points_at(member, net).max() > line
+    })
+}
+
+/// Whether spans of different prices hold a net, and the higher one gives its value.
+fn has_different_lines(sheet: &Sheet, flows: &[i64]) -> bool {
+    sheet.has_net(flows, |member, net| {
+        let prices = || sheet.spans_at(member, net).map(|span| span.price(net));
+        prices().min() < prices().max() && prices().max() == sheet.value(member, net)
+    })
+}
+
+/// Whether a span of one unit, at least so steep, gives the value of a net.
+fn has_span_of_one_unit(sheet: &Sheet, flows: &[i64], least_slope: i64) -> bool {
+    sheet.has_net(flows, |member, net| {
+        sheet.spans_at(member, net).any(|span| {
+            span.low == span.high
+                && span.slope.abs() >= least_slope
+                && sheet.value(member, net) == Some(span.price(net))
+        })
+    })
+}
+
 #[test]
 fn small_markets_clear_as_the_search_says() {
     let mut impossible = 0;
@@ -110,8 +200,16 @@ fn small_markets_clear_as_the_search_says() {
     let mut idle_missing = 0;
     let mut in_part = 0;
     let mut several = 0;
+    let mut inside = 0;
+    let mut above = 0;
+    let mut lines = 0;
+    let mut one_unit = 0;
+    let mut steep = 0;
     let count = cases("CLEARING_SMALL", 40_000, |random| {
-        let sheet = random_sheet(random);
+        let sheet = match random.one_in(3) {
+            true => random_sheet(random),
+            false => random_sheet_with_spans(random),
+        };
         let file = sheet.file(random);
         let room = 16 * sheet.n + random.pick(&[0, 1, 16, 100]);
         let found = search(&sheet);
@@ -133,6 +231,11 @@ fn small_markets_clear_as_the_search_says() {
         idle_missing += u64::from((1..=sheet.n).any(|m| sheet.value(m, 0).is_none()));
         in_part += u64::from(best.flows.iter().zip(&sheet.links).any(part));
         several += u64::from(sheet.has_several_prices(&best.flows));
+        inside += u64::from(sheet.has_net_inside_a_span(&best.flows));
+        above += u64::from(has_point_above_a_line(&sheet, &best.flows));
+        lines += u64::from(has_different_lines(&sheet, &best.flows));
+        one_unit += u64::from(has_span_of_one_unit(&sheet, &best.flows, 0));
+        steep += u64::from(has_span_of_one_unit(&sheet, &best.flows, 1 << 30));
     });
     for (seen, what) in [
         (impossible, "without an allocation"),
@@ -143,6 +246,11 @@ fn small_markets_clear_as_the_search_says() {
         (idle_missing, "with a member that does not offer 0 units"),
         (in_part, "with a link used in part"),
         (several, "with several prices for a net of the answer"),
+        (inside, "with a net inside a span alone"),
+        (above, "with a point above a span's line for a net"),
+        (lines, "with two spans of different prices for a net"),
+        (one_unit, "with a net that a span of one unit gives"),
+        (steep, "with a net that such a span gives by a steep line"),
     ] {
         assert!(seen >= count / 50, "{seen} of {count} markets {what}");
     }

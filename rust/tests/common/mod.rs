@@ -8,7 +8,7 @@ mod random;
 mod sheet;
 
 pub use random::{cases, Random};
-pub use sheet::{upward, Link, Offer, Sheet};
+pub use sheet::{offer_record, upward, Link, Offer, Sheet, Span, FILE_LIMIT};
 
 use clearing::clear;
 

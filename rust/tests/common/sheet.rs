@@ -3,6 +3,9 @@
 
 use super::Random;
 
+/// The most bytes that a file has: 31 links and 32 times 64 spans of two records each.
+pub const FILE_LIMIT: usize = 33_016;
+
 #[derive(Clone, Copy, Debug)]
 pub struct Link {
     pub a: usize,
@@ -10,6 +13,7 @@ pub struct Link {
     pub capacity: i64,
 }
 
+/// An offer of one number of units: a point.
 #[derive(Clone, Copy, Debug)]
 pub struct Offer {
     pub member: usize,
@@ -17,12 +21,23 @@ pub struct Offer {
     pub price: i64,
 }
 
-/// Members 1 to `n`, the links by a, then b, and the offers.
+/// An offer of every number of units from `low` to `high`, each at `slope` times it plus `base`.
+#[derive(Clone, Copy, Debug)]
+pub struct Span {
+    pub member: usize,
+    pub low: i64,
+    pub high: i64,
+    pub slope: i64,
+    pub base: i64,
+}
+
+/// Members 1 to `n`, the links by a, then b, and the offers: points and spans.
 #[derive(Clone, Debug)]
 pub struct Sheet {
     pub n: usize,
     pub links: Vec<Link>,
     pub offers: Vec<Offer>,
+    pub spans: Vec<Span>,
 }
 
 /// One step of the walk: to `member`, from `from`, over the link at place `link`.
@@ -48,31 +63,60 @@ impl Link {
     }
 }
 
+/// A record in the layout of an offer: a kind, a member, units and a number of 32 bits.
+pub fn offer_record(kind: u8, member: usize, units: i64, number: i64) -> [u8; 8] {
+    let [u0, u1] = (units as i16).to_le_bytes();
+    let [n0, n1, n2, n3] = (number as i32).to_le_bytes();
+    [kind, member as u8, u0, u1, n0, n1, n2, n3]
+}
+
 impl Offer {
     pub fn record(&self) -> [u8; 8] {
-        let [u0, u1] = (self.units as i16).to_le_bytes();
-        let [p0, p1, p2, p3] = (self.price as i32).to_le_bytes();
-        [2, self.member as u8, u0, u1, p0, p1, p2, p3]
+        offer_record(2, self.member, self.units, self.price)
+    }
+}
+
+impl Span {
+    pub fn records(&self) -> [[u8; 8]; 2] {
+        let lower = offer_record(6, self.member, self.low, self.base);
+        let upper = offer_record(7, self.member, self.high, self.slope);
+        [lower, upper]
+    }
+
+    pub fn price(&self, units: i64) -> i64 {
+        self.slope * units + self.base
     }
 }
 
 impl Sheet {
+    /// A market whose offers are points.
     pub fn new(n: usize, mut links: Vec<Link>, offers: Vec<Offer>) -> Sheet {
         links.sort_by_key(|link| (link.a, link.b));
-        Sheet { n, links, offers }
+        Sheet {
+            n,
+            links,
+            offers,
+            spans: Vec::new(),
+        }
     }
 
-    /// The file's records, links first.
+    /// The file's records, each span's two together: links, points, spans.
+    pub fn pieces(&self) -> Vec<Vec<[u8; 8]>> {
+        let links = self.links.iter().map(|link| vec![link.record()]);
+        let points = self.offers.iter().map(|offer| vec![offer.record()]);
+        let spans = self.spans.iter().map(|span| span.records().to_vec());
+        links.chain(points).chain(spans).collect()
+    }
+
     pub fn records(&self) -> Vec<[u8; 8]> {
-        let links = self.links.iter().map(Link::record);
-        links.chain(self.offers.iter().map(Offer::record)).collect()
+        self.pieces().concat()
     }
 
-    /// A file of the market, its records in any order.
+    /// A file of the market, its links and offers in any order.
     pub fn file(&self, random: &mut Random) -> Vec<u8> {
-        let mut records = self.records();
-        random.shuffle(&mut records);
-        records.concat()
+        let mut pieces = self.pieces();
+        random.shuffle(&mut pieces);
+        pieces.concat().concat()
     }
 
     /// A member's net, given the flow on each link.
@@ -89,11 +133,23 @@ impl Sheet {
         net
     }
 
-    /// The prices that a member's table gives for its net.
-    fn prices(&self, member: usize, net: i64) -> impl Iterator<Item = i64> + '_ {
+    /// The prices of a member's points for its net.
+    pub fn points_at(&self, member: usize, net: i64) -> impl Iterator<Item = i64> + '_ {
         let offers = self.offers.iter();
         let found = offers.filter(move |offer| offer.member == member && offer.units == net);
         found.map(|offer| offer.price)
+    }
+
+    /// A member's spans that hold its net.
+    pub fn spans_at(&self, member: usize, net: i64) -> impl Iterator<Item = &Span> + '_ {
+        let spans = self.spans.iter();
+        spans.filter(move |span| span.member == member && span.low <= net && net <= span.high)
+    }
+
+    /// The prices that a member's table gives for its net.
+    fn prices(&self, member: usize, net: i64) -> impl Iterator<Item = i64> + '_ {
+        let lines = self.spans_at(member, net).map(move |span| span.price(net));
+        self.points_at(member, net).chain(lines)
     }
 
     /// The highest of them.
@@ -101,11 +157,27 @@ impl Sheet {
         self.prices(member, net).max()
     }
 
+    /// Whether a net under the given flows is such a one, given its member and itself.
+    pub fn has_net(&self, flows: &[i64], is_such: impl Fn(usize, i64) -> bool) -> bool {
+        (1..=self.n).any(|member| is_such(member, self.net(member, flows)))
+    }
+
     /// Whether a member's table gives different prices for its net, given the flow on each link.
     pub fn has_several_prices(&self, flows: &[i64]) -> bool {
-        (1..=self.n).any(|member| {
-            let net = self.net(member, flows);
+        self.has_net(flows, |member, net| {
             self.prices(member, net).min() < self.value(member, net)
+        })
+    }
+
+    /// Whether a net, given the flow on each link, lies inside a span and at neither end, and no
+    /// point and no end gives as high a price.
+    pub fn has_net_inside_a_span(&self, flows: &[i64]) -> bool {
+        self.has_net(flows, |member, net| {
+            let spans = self.spans_at(member, net);
+            let (inside, ends): (Vec<&Span>, Vec<&Span>) =
+                spans.partition(|span| span.low < net && net < span.high);
+            let highest = |spans: Vec<&Span>| spans.iter().map(|span| span.price(net)).max();
+            highest(inside) > highest(ends).max(self.points_at(member, net).max())
         })
     }
 
