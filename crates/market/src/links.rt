@@ -67,7 +67,7 @@ pub fn neighbours(links: Links) -> [u32; 32]
 }
 
 // The line's lower member is u and its higher member v.
-fn spans(x: Line, u: Member, v: Member) -> bool
+fn leads(x: Line, u: Member, v: Member) -> bool
     ensures { λ r. ⌜ r ≡ (eqb (x .a .0) (u .0) && eqb (x .b .0) (v .0)) ⌝ }
 {
     if x.a.same(u) { x.b.same(v) } else { false }
@@ -76,7 +76,7 @@ fn spans(x: Line, u: Member, v: Member) -> bool
 fn between(x: Line, u: Member, v: Member) -> bool
     ensures { λ r. ⌜ r ≡ joins (linkIn x) (u .0) (v .0) ⌝ }
 {
-    if spans(x, u, v) { true } else { spans(x, v, u) }
+    if leads(x, u, v) { true } else { leads(x, v, u) }
 }
 
 // The capacity of the link between u and v, or 0 where there is none.

@@ -1,17 +1,16 @@
 -- A span's two records, each by the tests of its reading in their order. Assumes nothing.
 use mathlib.Core.Path.{_≡_, refl}
-use mathlib.Core.Bool.{Bool, true, false, cond, not, _&&_, _||_}
+use mathlib.Core.Bool.{Bool, true, false, not, _&&_}
 use mathlib.Core.List.{List}
 use Prim.Native.Nat.{ℕ, zero, suc, _+_, _-_, _/_, _≤_, _<_}
 use native.Mathlib.Omega.{arith}
 use native.Mathlib.Numerals.{add-one}
-use lib.Dec.{ltb}
 use lib.IntN.{ℤ, _+ℤ_, _*ℤ_}
 use lib.ListN.{length}
 use lib.Signed.{ltZ}
 use borrow.Author.Tests.{lt-ltb, le-ltb}
 use Rattle.problem.specs.Problem.{Terms}
-use Rattle.records.specs.Records.{Entry, byte, unitsAt, numberAt, isMember, isUnits, isPrice, names, unfinished, unbegun, badSpan, beginAt, spanOf, spanAt}
+use Rattle.records.specs.Records.{byte, unitsAt, numberAt, isMember, isUnits, isPrice, names, unfinished, unbegun, badSpan, beginAt, spanOf, spanAt}
 use Rattle.records.specs.Records.Entry.{offer, begins, fault}
 
 -- ---- record i, of kind 6 or 7

@@ -99,12 +99,12 @@ fn span_of(j: u8, low: Units, high: Units, slope: Slope, base: Price) -> Reading
     if high.below(low) {
         return Reading::Fault(14);
     }
-    let least = slope.amount(low, base);
-    if !least.within(Price(-1000000), Price(1000000)) {
+    let at_low = slope.amount(low, base);
+    if !at_low.within(Price(-1000000), Price(1000000)) {
         return Reading::Fault(14);
     }
-    let most = slope.amount(high, base);
-    if !most.within(Price(-1000000), Price(1000000)) {
+    let at_high = slope.amount(high, base);
+    if !at_high.within(Price(-1000000), Price(1000000)) {
         return Reading::Fault(14);
     }
     Reading::Offer(Member(j), Terms::Span(low, high, slope, base))

@@ -2,8 +2,7 @@
 use mathlib.Core.Path.{_≡_, refl, sym, ap, _∙_, subst}
 use mathlib.Core.Bool.{Bool, true, false, cond, not, _&&_}
 use mathlib.Core.List.{List}
-use mathlib.Core.Logic.{_⊎_, inl, inr}
-use mathlib.Core.Option.{Option, none, some}
+use mathlib.Core.Option.{none, some}
 use Prim.Native.Nat.{ℕ, _+_, _^_, _≤_, _<_, max, zero-le}
 use native.Mathlib.Omega.{arith}
 use lib.Dec.{T, leb, ltb, eqb}
@@ -23,7 +22,7 @@ use Rattle.problem.specs.Problem.{worth}
 use Rattle.problem.proofs.Choices.{apart}
 use Rattle.problem.proofs.Prices.{cellOf, Limited}
 use Rattle.rows.specs.declared.Span.{Span}
-use Rattle.rows.specs.inner.Rows.{spanned, cellIn, Ranged}
+use Rattle.rows.specs.inner.Rows.{cellIn, Ranged}
 
 -- the price on a span's line for x units
 abbrev pub onLine : Span → ℤ → ℤ

@@ -1,7 +1,4 @@
 -- `point_at` meets its contract: the numbers that it reads are those of the definition. Assumes nothing.
-use mathlib.Core.Path.{ap, _∙_}
-use mir.Syntax.{w32}
-use mir.Val.{toZ}
 use Rattle.records.specs.Records.{pointAt}
 use borrow.Author.Needs.{needs}
 use Rattle.records.proofs.point_at.Statement.{statement}

@@ -1,11 +1,10 @@
 -- `start_at` meets its contract: cell 0, or the cell of the high end where that is below the top. Assumes nothing.
 use mathlib.Core.Path.{_≡_, sym, _∙_}
-use mathlib.Core.Bool.{true, false}
-use native.Mathlib.Omega.{arith}
-use lib.IntN.{ℤ, pos, natAbs, _-ℤ_}
+use mathlib.Core.Bool.{false}
+use lib.IntN.{pos, natAbs, _-ℤ_}
 use lib.Signed.{ltZ, pos-natAbs}
 use mir.Syntax.{w32}
-use mir.Val.{SFits, toZ, ofZ}
+use mir.Val.{toZ, ofZ}
 use mir.Facts.{toZ-ofZ}
 use Rattle.rows.proofs.Lines.{index, below-top, start-units, start-place, start-top}
 use borrow.Author.Needs.{needs}

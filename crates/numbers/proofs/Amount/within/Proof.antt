@@ -1,5 +1,5 @@
 -- `Amount::within` meets its contract: limits of 32 bits are the same numbers in 64.
-use mathlib.Core.Path.{refl, sym, _∙_}
+use mathlib.Core.Path.{refl, sym}
 use mir.Syntax.{w32, w64}
 use mir.Val.{SFits}
 use mir.Facts.{toZ-ofZ, sfits-widen}

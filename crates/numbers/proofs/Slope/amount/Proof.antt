@@ -1,8 +1,6 @@
 -- `Slope::amount` meets its contract: 32 bits times 16, and 32 bits more, fit 64.
-use mathlib.Core.Path.{_≡_, sym, ap, subst, _∙_}
-use lib.IntN.{ℤ, _+ℤ_, _*ℤ_}
 use mir.Syntax.{w16, w32, w64}
-use mir.Val.{SFits, toZ, ofZ}
+use mir.Val.{SFits}
 use mir.Facts.{toZ-ofZ, sfits-widen}
 use borrow.Author.Needs.{needs}
 use Rattle.numbers.proofs.Times.{product-fits, line-fits}

@@ -1,7 +1,7 @@
--- `spans` meets its contract: the second test is made where the first is true. Assumes nothing.
+-- `leads` meets its contract: the second test is made where the first is true. Assumes nothing.
 use borrow.Author.Needs.{needs}
-use Rattle.market.proofs.links.spans.Statement.{statement}
-use Rattle.market.proofs.links.spans.Tie as tie
+use Rattle.market.proofs.links.leads.Statement.{statement}
+use Rattle.market.proofs.links.leads.Tie as tie
 
 same-requires : tie.Need-same-requires
 same-requires c κs = search needs
@@ -15,7 +15,7 @@ returns c = rw (← c .before .before .same .ensures, c .before .if1 .taken) (c 
 returns-2 : tie.Need-returns-2
 returns-2 c = rw (← c .before .same .ensures, c .if1 .left)
 
-pub spans-spec : {M : Type 1} → statement M
-spans-spec =
+pub leads-spec : {M : Type 1} → statement M
+leads-spec =
     tie.close
     (tie.spec same-requires same-requires-2 returns returns-2)
