@@ -146,8 +146,7 @@ impl fmt::Display for Refusal {
             ),
             Refusal::WrongSpan { record } => write!(
                 f,
-                "a span's lower end above its upper end, or its price out of range at an end, in \
-                 record {record}"
+                "lower end above upper end, or price out of range at an end, in record {record}"
             ),
         }?;
         write!(f, " (refusal {})", self.number())

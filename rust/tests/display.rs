@@ -511,6 +511,7 @@ fn check_refused(file: &[u8]) -> String {
     let refusal = clear_file(file).expect_err("a refusal");
     let (text, page) = forms(file);
     assert_eq!(text, format!("refused: {refusal}\n"));
+    assert!(text.trim_end().len() <= 100, "{text}");
     assert!(page.contains(&format!("\n<p>refused: {refusal}</p>\n")));
     assert!(!page.contains("<table") && !page.contains("<li"));
     shown::check_page(&page);

@@ -455,7 +455,7 @@ fn a_refusal_says_what_is_wrong_and_where() {
             Refusal::WrongSpan { record: 4 },
             14,
             4,
-            "a span's lower end above its upper end, or its price out of range at an end, in record 4",
+            "lower end above upper end, or price out of range at an end, in record 4",
         ),
     ] {
         assert_eq!((refusal.number(), refusal.place()), (number, place));
