@@ -150,13 +150,14 @@ fn loose(random: &mut Random) -> Vec<Piece> {
 
 fn loose_piece(random: &mut Random) -> Piece {
     let [lower, upper] = edge_span(random).records();
-    match random.below(12) {
+    match random.below(14) {
         0 => vec![lower],
         1 => vec![upper],
         2 => vec![damaged(lower, random)],
         3 => vec![damaged(upper, random)],
-        4 => vec![lower, damaged(upper, random)],
-        5 => vec![other_record(random)],
+        4 => vec![damaged(lower, random), upper],
+        5 => vec![lower, damaged(upper, random)],
+        6 => vec![other_record(random)],
         _ => vec![lower, upper],
     }
 }

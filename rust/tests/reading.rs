@@ -70,6 +70,7 @@ fn is_offer(record: &[u8]) -> bool {
     is_member(record[1]) && (-2000..=2000).contains(&units(record))
 }
 
+/// Whether two records are the two of a span, in their order.
 fn are_a_span(lower: Option<&[u8]>, upper: Option<&[u8]>) -> bool {
     match (lower, upper) {
         (Some([6, member, ..]), Some([7, other, ..])) => member == other,
@@ -77,7 +78,8 @@ fn are_a_span(lower: Option<&[u8]>, upper: Option<&[u8]>) -> bool {
     }
 }
 
-fn is_line(span: &Span) -> bool {
+/// Whether a span does not end before it begins, and its prices are in range.
+pub fn is_line(span: &Span) -> bool {
     span.low <= span.high && is_price(span.price(span.low)) && is_price(span.price(span.high))
 }
 
@@ -106,7 +108,7 @@ pub fn span(lower: &[u8], upper: &[u8]) -> Span {
 
 /// The links of a file without faults, each with its record's place, and its points and spans.
 pub struct Records {
-    pub links: Vec<(u64, Link)>,
+    links: Vec<(u64, Link)>,
     pub offers: Vec<Offer>,
     pub spans: Vec<Span>,
 }

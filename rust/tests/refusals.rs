@@ -17,6 +17,8 @@ enum Case {
     InOneRecord(u64, u64),
     /// The first is given at a record, and the second has its case in the next one.
     InNeighbours(u64, u64),
+    /// Refusal 4 is given at a record of this kind.
+    WrongField(u8),
     /// Refusal 13 is given at a record of the first kind, 6 or 7. Where its span's other record
     /// should be there is one of the second kind, 0 for every kind unknown, or none.
     Alone(u8, Option<u8>),
@@ -94,6 +96,7 @@ fn faulty_cases(records: &[&[u8]], place: usize) -> Vec<Case> {
         cases.extend(next.map(|other| Case::InNeighbours(number, other)));
     }
     match number {
+        4 => cases.push(Case::WrongField(records[place][0])),
         13 => cases.push(alone(records, place)),
         14 => {
             let found = span_faults(&span(records[place - 1], records[place]));
@@ -178,6 +181,7 @@ fn to_be_met() -> Vec<(Case, u64)> {
             cases.push((Case::InNeighbours(first, other), 10_000));
         }
     }
+    cases.extend([1, 2, 6, 7].map(|kind| (Case::WrongField(kind), 1000)));
     for beside in [None, Some(0), Some(1), Some(2), Some(6), Some(7)] {
         cases.push((Case::Alone(6, beside), 10_000));
     }

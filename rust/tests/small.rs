@@ -1,6 +1,7 @@
 //! Random small markets against a search that tries every flow on every link.
 
 use crate::common::{cases, cleared, upward, Link, Offer, Random, Sheet, Span};
+use crate::reading::is_line;
 
 /// The most combinations of flows that the search tries.
 const MOST_TRIED: i64 = 3000;
@@ -92,18 +93,10 @@ fn random_span(member: usize, most_units: i64, price_step: i64, random: &mut Ran
             slope,
             base: price - slope * near.clamp(low, high),
         };
-        if is_sound(&span) {
+        if is_line(&span) && i32::try_from(span.base).is_ok() {
             return span;
         }
     }
-}
-
-/// Whether the span's prices and its base keep to their ranges.
-fn is_sound(span: &Span) -> bool {
-    let is_price = |price: i64| price.abs() <= 1_000_000;
-    is_price(span.price(span.low))
-        && is_price(span.price(span.high))
-        && i32::try_from(span.base).is_ok()
 }
 
 /// What the search finds: the highest total, how many allocations have it, and of those the flows
