@@ -12,7 +12,7 @@ use core::fmt;
 /// | 2 | [`CutShort`](Refusal::CutShort) | its number of bytes is not a multiple of 8 | 0 |
 /// | 3 | [`UnknownKind`](Refusal::UnknownKind) | a record has a kind other than 1, 2, 6 and 7 | the record |
 /// | 4 | [`WrongField`](Refusal::WrongField) | a record has a field outside its range, another value where zero must stand, or an a that is not below its b | the record |
-/// | 5 | [`NoOffer`](Refusal::NoOffer) | no record is an offer | 0 |
+/// | 5 | [`NoOffer`](Refusal::NoOffer) | there is no offer, neither point nor span | 0 |
 /// | 6 | [`EmptyTable`](Refusal::EmptyTable) | a member from 1 to the highest has no offer | the lowest such member |
 /// | 7 | [`LongTable`](Refusal::LongTable) | a member has more than 64 offers | the lowest such member |
 /// | 8 | | never | |
@@ -130,7 +130,7 @@ impl fmt::Display for Refusal {
                 f,
                 "a field out of range, a zero byte not zero, or a not below b, in record {record}"
             ),
-            Refusal::NoOffer => write!(f, "no offer record"),
+            Refusal::NoOffer => write!(f, "no offer"),
             Refusal::EmptyTable { member } => write!(f, "member {member} has no offer"),
             Refusal::LongTable { member } => write!(f, "member {member} has more than 64 offers"),
             Refusal::Ring { record } => write!(

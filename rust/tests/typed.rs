@@ -413,7 +413,7 @@ fn a_refusal_says_what_is_wrong_and_where() {
             5,
             "a field out of range, a zero byte not zero, or a not below b, in record 5",
         ),
-        (Refusal::NoOffer, 5, 0, "no offer record"),
+        (Refusal::NoOffer, 5, 0, "no offer"),
         (
             Refusal::EmptyTable { member },
             6,

@@ -12,7 +12,7 @@ use Rattle.clearing.specs.Outcome.Outcome.{nothing, cleared}
 use Rattle.clearing.specs.Promise.{tooShort, refusalOf, Result}
 use Rattle.clearing.specs.Promise.Result.{refused, settled}
 
--- refusals 1 to 11
+-- refusals 1 to 11, 13 and 14
 refusal-11 : (file : List ℕ) (room : ℕ) → IfAllowed (refusalOf file room)
 unfolding refusalOf tooShort
 refusal-11 file room =

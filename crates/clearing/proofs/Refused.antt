@@ -1,4 +1,4 @@
--- Refusals 1 to 11: the first that applies, or none, and what is held of a file that passes. Assumes nothing.
+-- Refusals 1 to 11, 13 and 14: the first that applies, or none, and what is held of a file that passes. Assumes nothing.
 use mathlib.Core.Path.{_≡_, refl, sym, ap, _∙_, subst}
 use mathlib.Core.List.{List}
 use mathlib.Core.Option.{Option, none, some}

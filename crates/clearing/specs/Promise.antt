@@ -15,7 +15,7 @@ use Rattle.clearing.specs.Outcome.{code, Outcome}
 unfoldable pub tooShort : Market → ℕ → Option ℕ
 tooShort m room = placeIf (ltb room (16 * m .members)) (16 * m .members)
 
--- refusals 1 to 11, the answer area having `room` bytes
+-- refusals 1 to 11, 13 and 14, the answer area having `room` bytes
 unfoldable pub refusalOf : List ℕ → ℕ → Option Refusal
 refusalOf file room = fileRefusal file otherwise refusal 11 (tooShort (marketOf file) room)
 

@@ -25,7 +25,7 @@ unfoldable pub offersBy : ℕ → List Offer → ℕ
 offersBy j [] = 0
 offersBy j (o ∷ os) = cond (eqb j (o .member)) 1 0 + offersBy j os
 
--- 5: no offer record
+-- 5: no offer, neither point nor span
 unfoldable pub noOffer : Market → Option ℕ
 noOffer m = placeIf (eqb (length (m .offers)) 0) 0
 

@@ -13,15 +13,15 @@ use Rattle.numbers.proofs.Complement.{sfits-from, sfits-to}
 
 -- ---- a positive factor
 
-pub times-up : (n : ℕ) (z : ℤ) → up (pos n *ℤ z) ≡ n * up z
+times-up : (n : ℕ) (z : ℤ) → up (pos n *ℤ z) ≡ n * up z
 times-up n (pos k) = refl
 times-up n (negsuc k) = up-neg (pos (n * suc k)) ∙ sym (mul-zero n)
 
-pub times-dn : (n : ℕ) (z : ℤ) → dn (pos n *ℤ z) ≡ n * dn z
+times-dn : (n : ℕ) (z : ℤ) → dn (pos n *ℤ z) ≡ n * dn z
 times-dn n (pos k) = sym (mul-zero n)
 times-dn n (negsuc k) = dn-neg (pos (n * suc k))
 
-pub times-le : (n : ℕ) {x y : ℤ} → x ≤ℤ y → (pos n *ℤ x) ≤ℤ (pos n *ℤ y)
+times-le : (n : ℕ) {x y : ℤ} → x ≤ℤ y → (pos n *ℤ x) ≤ℤ (pos n *ℤ y)
 times-le n {x} {y} h =
     le-from (pos n *ℤ x) (pos n *ℤ y)
     (omega (
@@ -42,7 +42,7 @@ abs-neg (pos zero) = refl
 abs-neg (pos (suc n)) = refl
 abs-neg (negsuc n) = refl
 
-pub times-abs : (s x : ℤ) → natAbs (s *ℤ x) ≡ natAbs s * natAbs x
+times-abs : (s x : ℤ) → natAbs (s *ℤ x) ≡ natAbs s * natAbs x
 times-abs (pos m) (pos n) = refl
 times-abs (pos m) (negsuc n) = abs-neg (pos (m * suc n))
 times-abs (negsuc m) (pos n) = abs-neg (pos (suc m * n))

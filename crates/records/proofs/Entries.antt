@@ -26,7 +26,7 @@ use Rattle.records.specs.declared.Terms.{Terms}
 use Rattle.records.specs.declared.Terms.the-variants as Terms
 use Rattle.records.specs.declared.Reading.{Reading}
 use Rattle.records.specs.declared.Reading.the-variants as Reading
-use Rattle.records.specs.Records.{Entry, byte, two, unitsAt, numberAt, isMember, isUnits, isPrice, linkOf, pointOf, unfinished, unbegun, badSpan, spanOf, linkAt, pointAt, beginAt, spanAt, entryAt, entriesFrom, entries}
+use Rattle.records.specs.Records.{Entry, byte, two, unitsAt, numberAt, isMember, isUnits, isPrice, fieldsFit, linkOf, pointOf, unfinished, unbegun, badSpan, spanOf, linkAt, pointAt, beginAt, spanAt, entryAt, entriesFrom, entries}
 use Rattle.records.specs.Records.Entry.{link, offer, begins, fault}
 use Rattle.records.specs.Refusals.{Refusal, refusal, _otherwise_, placeIf, fileLimit, tooLong, faulty, unsound}
 use Rattle.records.specs.inner.Cases.{termsOf, termsIn, readingOf}
@@ -218,7 +218,7 @@ module _ (f : List ℕ) (i : ℕ) where
   begin-known : Known (byte f i 1) (beginAt f i)
   unfolding beginAt
   begin-known =
-      either (byte f i 1) (isMember (byte f i 1) && isUnits (unitsAt f i)) _ _
+      either (byte f i 1) (fieldsFit f i) _ _
       (λ e.
       either (byte f i 1) (unfinished f i) (fault 13) (begins (byte f i 1)) (λ d. known-13 (byte f i 1))
       (λ d. record { fits = is-member (byte f i 1) (and-true (isMember (byte f i 1)) (isUnits (unitsAt f i)) e .0); member-is = tt }))
@@ -227,7 +227,7 @@ module _ (f : List ℕ) (i : ℕ) where
   span-at-known : Known (byte f i 1) (spanAt f i)
   unfolding spanAt
   span-at-known =
-      either (byte f i 1) (isMember (byte f i 1) && isUnits (unitsAt f i)) _ _
+      either (byte f i 1) (fieldsFit f i) _ _
       (λ e.
       either (byte f i 1) (unbegun f i) _ _ (λ d. known-13 (byte f i 1))
       (λ d. span-known (byte f i 1) _ _ _ _ (is-member (byte f i 1) (and-true (isMember (byte f i 1)) (isUnits (unitsAt f i)) e .0))))

@@ -10,15 +10,12 @@ use lib.ListN.{length}
 use lib.Signed.{ltZ}
 use borrow.Author.Tests.{lt-ltb, le-ltb}
 use Rattle.problem.specs.Problem.{Terms}
-use Rattle.records.specs.Records.{byte, unitsAt, numberAt, isMember, isUnits, isPrice, names, unfinished, unbegun, badSpan, beginAt, spanOf, spanAt}
+use Rattle.records.specs.Records.{byte, unitsAt, numberAt, isPrice, names, fieldsFit, unfinished, unbegun, badSpan, beginAt, spanOf, spanAt}
 use Rattle.records.specs.Records.Entry.{offer, begins, fault}
 
 -- ---- record i, of kind 6 or 7
 module _ (f : List ℕ) (i : ℕ) where
-  abbrev FieldsFit : Bool → Type 0
-  FieldsFit t = isMember (byte f i 1) && isUnits (unitsAt f i) ≡ t
-
-  module _ (h : FieldsFit false) where
+  module _ (h : fieldsFit f i ≡ false) where
     pub begin-field : beginAt f i ≡ fault 4
     unfolding beginAt
     begin-field = rw h refl
@@ -27,7 +24,7 @@ module _ (f : List ℕ) (i : ℕ) where
     unfolding spanAt
     span-field = rw h refl
 
-  module _ (h : FieldsFit true) where
+  module _ (h : fieldsFit f i ≡ true) where
     pub begin-last : length f / 8 ≤ i + 1 → beginAt f i ≡ fault 13
     unfolding beginAt unfinished
     begin-last l = rw (h, le-ltb (suc i) (length f / 8) (omega arith)) refl

@@ -79,10 +79,14 @@ unbegun f (suc i) = not (names f i 6 (byte f (suc i) 1))
 unfoldable pub badSpan : (l u a b : ℤ) → Bool
 badSpan l u a b = ltZ u l || not (isPrice ((a *ℤ l) +ℤ b)) || not (isPrice ((a *ℤ u) +ℤ b))
 
+-- the member and the units of record i are in range
+abbrev pub fieldsFit : List ℕ → ℕ → Bool
+fieldsFit f i = isMember (byte f i 1) && isUnits (unitsAt f i)
+
 -- kind 6: member, l, b
 unfoldable pub beginAt : List ℕ → ℕ → Entry
 beginAt f i =
-    cond (isMember (byte f i 1) && isUnits (unitsAt f i))
+    cond (fieldsFit f i)
     (cond (unfinished f i) (fault 13) (begins (byte f i 1))) (fault 4)
 
 -- a span of member j
@@ -92,7 +96,7 @@ spanOf j l u a b = cond (badSpan l u a b) (fault 14) (offer (record { member = j
 -- kind 7: member, u, a; l and b are those of the record before it
 unfoldable pub spanAt : List ℕ → ℕ → Entry
 spanAt f i =
-    cond (isMember (byte f i 1) && isUnits (unitsAt f i))
+    cond (fieldsFit f i)
     (cond (unbegun f i) (fault 13) (spanOf (byte f i 1) (unitsAt f (i - 1)) (unitsAt f i) (numberAt f i) (numberAt f (i - 1)))) (fault 4)
 
 -- record i, kind before fields

@@ -23,7 +23,7 @@ pub enum Terms {
 }
 
 // A record as it is read: a link's ends and capacity, an offer's member and terms, the member whose span the next record
-// offers, or the refusal number of a fault. A span is read at the later of its two records, when all of it has been checked.
+// offers, or the refusal number of a fault. A span is read at the later of its two records; its lower end's range is the earlier one's to check.
 pub enum Reading {
     Link(Member, Member, Units),
     Offer(Member, Terms),

@@ -17,7 +17,7 @@ use Rattle.numbers.proofs.Signs.{up, dn, added, equal, le-to, le-from}
 use Rattle.numbers.proofs.Tests.{true-false, bool-cases, eqZ-same, eqZ-other, within-true, true-within}
 use Rattle.problem.specs.Problem as P
 use Rattle.problem.specs.Problem.{Offer, worth, offered, higher, value}
-use Rattle.problem.proofs.Prices.{cellOf, Limited, Priced, value-limited}
+use Rattle.problem.proofs.Prices.{cellOf, Low, Limited, limited-low, Worths, Priced, worths-map, value-keeps}
 use Rattle.problem.proofs.Values.{own-offered, other-offered, higher-none}
 use Rattle.records.specs.declared.Terms.{Terms}
 use Rattle.records.specs.declared.Reading.{Reading}
@@ -46,19 +46,25 @@ module _ (B j : ℕ) (x : ℤ) where
   cell-cons (offer o) es = omega (arith, cell-higher B (offered o j x) (value (offersOf es) j x), cell-higher B (offered o j x) none)
 
 -- ---- the prices of a file's offers are in range
-priced-cons : (e : Entry) (es : List Entry) → Fits e → Priced 1000000 (offersOf es) → Priced 1000000 (offersOf (e ∷ es))
+limited-cons : (e : Entry) (es : List Entry) → Fits e → Worths (Limited 1000000) (offersOf es) → Worths (Limited 1000000) (offersOf (e ∷ es))
 unfolding offersOf
-priced-cons (link l) es f h = h
-priced-cons (offer o) es f h = (f .worths, h)
-priced-cons (begins k) es f h = h
-priced-cons (fault k) es f h = h
+limited-cons (link l) es f h = h
+limited-cons (offer o) es f h = (f .worths, h)
+limited-cons (begins k) es f h = h
+limited-cons (fault k) es f h = h
+
+limited : (f : List ℕ) → Worths (Limited 1000000) (offersOf (entries f))
+unfolding offersOf
+limited f = by-record (λ es. Worths (Limited 1000000) (offersOf es)) tt limited-cons f
 
 pub priced : (f : List ℕ) → Priced 1000000 (offersOf (entries f))
-unfolding offersOf
-priced f = by-record (λ es. Priced 1000000 (offersOf es)) tt priced-cons f
+priced f = worths-map (Limited 1000000) (Low 1000000) (limited-low 1000000) (offersOf (entries f)) (limited f)
+
+pub value-limited : (f : List ℕ) (j : ℕ) (x : ℤ) → Limited 1000000 (value (offersOf (entries f)) j x)
+value-limited f = value-keeps (Limited 1000000) tt (offersOf (entries f)) (limited f)
 
 pub cell-bound : (j : ℕ) (x : ℤ) (f : List ℕ) → cellOf 1000000 (value (offersOf (entries f)) j x) ≤ 2000001
-cell-bound j x f = cell-top 1000000 _ (value-limited 1000000 (offersOf (entries f)) (priced f) j x)
+cell-bound j x f = cell-top 1000000 _ (value-limited f j x)
 
 -- ---- what the records from i on, of n, give
 unfoldable pub left : List ℕ → ℕ → ℕ → ℤ → ℕ → ℕ

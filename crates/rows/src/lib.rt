@@ -26,7 +26,7 @@ use numbers::Units;
 use records::Reading;
 use records::Terms;
 
-// The cell of a price.
+// The cell of an amount that is in a price's range.
 fn cell_of(p: Amount) -> u32
     requires { ⌜ within (negℤ (pos 1000000)) (pos 1000000) (p .0) ≡ true ⌝ }
     ensures { λ r. ⌜ r ≡ cellOf 1000000 (some (p .0)) ⌝ }
@@ -53,7 +53,7 @@ struct Span {
 }
 
 // An offer as a span: a point is a span of its own units alone, with slope 0.
-fn span_of(t: Terms) -> Span
+fn as_span(t: Terms) -> Span
     ensures { λ r. ⌜ ((x : ℤ) → worth (termsIn t) x ≡ worth (spanned r) x) ⌝ }
 {
     match t {
@@ -89,7 +89,7 @@ fn offer_at(records: &[u8], i: usize, j: Member) -> Offered
     let Reading::Offer(_, t) = records::read_at(records, i) else {
         return Offered::Nothing;
     };
-    Offered::Span(span_of(t))
+    Offered::Span(as_span(t))
 }
 
 // The cell that a span gives for x units.
@@ -202,7 +202,7 @@ fn cells_to(top: Units, low: Units, n: usize) -> usize
 }
 
 // A span taken into a row whose cell x is for top - x units: each cell that it covers becomes the higher of what it holds and
-// what the span gives, which falls by the slope from cell to cell.
+// what the span gives, which falls by the slope from cell to cell, the units falling by one.
 fn put_span(s: Span, top: Units, row: &mut [u32])
     requires { ⌜ Ranged s ⌝ }
     ensures { λ _. ⌜ ((x : ℕ) → x < length (now (row .entry)) → getD (now (row .exit)) x 0 ≡ max (getD (now (row .entry)) x 0) (cellIn s (top .0 -ℤ pos x))) ⌝ }

@@ -1,4 +1,4 @@
--- `clear` meets its contract: refusals 1 to 11 leave the area as it was, and a sound file is a market that has its outcome.
+-- `clear` meets its contract: refusals 1 to 11, 13 and 14 leave the area as it was, and a sound file is a market that has its outcome.
 use borrow.Author.Needs.{needs}
 use mathlib.Core.Path.{_≡_, sym, ap, _∙_, subst}
 use mathlib.Core.List.{List}

@@ -28,13 +28,13 @@ enum-known-t c = search needs
 returns-2 : tie.Need-returns-2
 returns-2 c = Offers.nothing (no-offer _ _ _ (c .before .read-at .ensures) (c .match .keys2) _)
 
-span-of-requires : tie.Need-span-of-requires
-span-of-requires c κs = search needs
+as-span-requires : tie.Need-as-span-requires
+as-span-requires c κs = search needs
 
 returns-3 : tie.Need-returns-3
 returns-3 c =
     let r = c .before .before .before .before in
-    an-offer _ _ _ (r .read-at .ensures) _ _ (c .before .before .t .given .1) _ (r .before .if1 .left) _ (c .span-of .ensures)
+    an-offer _ _ _ (r .read-at .ensures) _ _ (c .before .before .t .given .1) _ (r .before .if1 .left) _ (c .as-span .ensures)
 
 pub offer-at-spec : {M : Type 1} → statement M
-offer-at-spec = tie.close (tie.spec mul-if1 add-if1 shared-slice-read-if1 returns read-at-requires enum-known-t returns-2 span-of-requires returns-3)
+offer-at-spec = tie.close (tie.spec mul-if1 add-if1 shared-slice-read-if1 returns read-at-requires enum-known-t returns-2 as-span-requires returns-3)

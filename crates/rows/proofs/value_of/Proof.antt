@@ -7,11 +7,11 @@ use lib.IntN.{pos, _-ℤ_}
 use lib.ListN.{length}
 use borrow.Author.Needs.{needs}
 use Rattle.problem.specs.Problem.{value}
-use Rattle.problem.proofs.Prices.{cellOf, value-limited}
+use Rattle.problem.proofs.Prices.{cellOf}
 use Rattle.records.specs.Records.{entries}
 use Rattle.records.specs.Market.{offersOf}
 use Rattle.rows.proofs.Prices.{none-back, price-back}
-use Rattle.rows.proofs.Gives.{left, left-all, left-none, left-more, priced, cell-bound}
+use Rattle.rows.proofs.Gives.{left, left-all, left-none, left-more, value-limited, cell-bound}
 use Rattle.rows.proofs.value_of.Statement.{statement}
 use Rattle.rows.proofs.value_of.Tie as tie
 
@@ -66,7 +66,7 @@ returns-2 c =
     let l = c .before .before in
     let a = l .before .before .before .args in
     let v = value (offersOf (entries (a .records .now))) (a .j .0) (a .x .0) in
-    price-back 1000000 v (c .total-of .result) (value-limited 1000000 (offersOf (entries (a .records .now))) (priced (a .records .now)) (a .j .0) (a .x .0)) (omega (arith, best-is l, c .before .if1 .left))
+    price-back 1000000 v (c .total-of .result) (value-limited (a .records .now) (a .j .0) (a .x .0)) (omega (arith, best-is l, c .before .if1 .left))
     (c .total-of .ensures ∙ ap (λ (k : ℕ). pos (k - 1) -ℤ pos 1000000) (best-is l))
 
 pub value-of-spec : {M : Type 1} → statement M

@@ -1,10 +1,10 @@
--- `span_of` meets its contract: a point is a span of its own units alone. Assumes nothing.
+-- `as_span` meets its contract: a point is a span of its own units alone. Assumes nothing.
 use mathlib.Core.Path.{refl}
 use Rattle.records.specs.inner.Cases.{termsIn}
 use Rattle.rows.proofs.Gives.{point-spanned}
 use borrow.Author.Needs.{needs}
-use Rattle.rows.proofs.span_of.Statement.{statement}
-use Rattle.rows.proofs.span_of.Tie as tie
+use Rattle.rows.proofs.as_span.Statement.{statement}
+use Rattle.rows.proofs.as_span.Tie as tie
 
 enum-known-t : tie.Need-enum-known-t
 enum-known-t c = search needs
@@ -20,5 +20,5 @@ returns-2 : tie.Need-returns-2
 unfolding termsIn
 returns-2 c = λ x. rw (c .before .t2 .given .1) refl
 
-pub span-of-spec : {M : Type 1} → statement M
-span-of-spec = tie.close (tie.spec enum-known-t enum-known-t-2 returns returns-2)
+pub as-span-spec : {M : Type 1} → statement M
+as-span-spec = tie.close (tie.spec enum-known-t enum-known-t-2 returns returns-2)
