@@ -7,8 +7,8 @@ mod shown;
 use crate::common::{cases, Link, Offer, Random, Sheet};
 use crate::examples::committed;
 use crate::files::random_file;
-use crate::large::{random_links, random_offers, Shape};
-use crate::small::random_sheet;
+use crate::large::{random_sheet, Shape, Tables};
+use crate::small::any_sheet;
 use clearing::{clear_file, clear_market, Answer, Market, Member, Units};
 use clearing_tools::drawing::{coloured, text};
 use clearing_tools::page::page;
@@ -181,7 +181,7 @@ fn both_forms_show_the_numbers_of_the_answer() {
     }
     let (mut small, mut large) = (0, 0);
     let count = cases("CLEARING_SMALL", 3000, |random| {
-        small += compare_cleared(&random_sheet(random).file(random));
+        small += compare_cleared(&any_sheet(random).file(random));
     });
     assert!(small >= count / 2, "{small} of {count} cleared");
     let count = cases("CLEARING_LARGE", 30, |random| {
@@ -199,14 +199,15 @@ fn compare_cleared(file: &[u8]) -> u64 {
     u64::from(cleared)
 }
 
-/// A market of 32 members with leases of every size.
+/// A market of 32 members with leases of every size, of points, of spans, or of both.
 fn large_sheet(random: &mut Random) -> Sheet {
     let shape = random.pick(&[Shape::Star, Shape::Chain, Shape::Tree]);
-    let mut links = random_links(shape, random);
-    for link in &mut links {
+    let tables = random.pick(&[Tables::Points, Tables::Spans, Tables::Both]);
+    let mut sheet = random_sheet(tables, shape, random);
+    for link in &mut sheet.links {
         link.capacity = random.pick(&[0, 1, 2, 5, 7, 9, 30, 40]);
     }
-    Sheet::new(32, links, random_offers(random))
+    sheet
 }
 
 /// The links of a tree, each member joined to an earlier one in an order that may be any.
@@ -380,7 +381,7 @@ fn both_forms_say_who_is_held_back() {
         check_holds(committed(name), &mut seen);
     }
     let count = cases("CLEARING_SMALL", 3000, |random| {
-        check_holds(random_sheet(random).file(random), &mut seen);
+        check_holds(any_sheet(random).file(random), &mut seen);
     });
     cases("CLEARING_LARGE", 12, |random| {
         check_holds(large_sheet(random).file(random), &mut seen);

@@ -1,6 +1,7 @@
 //! The highest total of a market on a tree, and whether an answer keeps the tie rule: along the walk
 //! from its end, each member's table with all that is reached from it is joined to the table of the
-//! member that it was reached from.
+//! member that it was reached from. The library's method joins tables along the walk as well; small
+//! markets are held to the search of `small`, which joins none.
 
 use crate::common::{upward, Sheet};
 use std::ops::RangeInclusive;
@@ -97,7 +98,7 @@ fn tables(sheet: &Sheet) -> Vec<Row> {
     for span in &sheet.spans {
         let table = &mut tables[span.member];
         for units in span.low.max(-table.reach)..=span.high.min(table.reach) {
-            table.raise(units, span.slope * units + span.base);
+            table.raise(units, span.price(units));
         }
     }
     tables

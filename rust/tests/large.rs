@@ -16,7 +16,7 @@ pub enum Shape {
 }
 
 /// The links of a tree on all members, with member 1 anywhere in it.
-pub fn random_links(shape: Shape, random: &mut Random) -> Vec<Link> {
+fn random_links(shape: Shape, random: &mut Random) -> Vec<Link> {
     let mut members: Vec<usize> = (1..=MEMBERS).collect();
     if random.one_in(2) {
         random.shuffle(&mut members);
@@ -33,7 +33,7 @@ pub fn random_links(shape: Shape, random: &mut Random) -> Vec<Link> {
     links
 }
 
-pub fn random_offers(random: &mut Random) -> Vec<Offer> {
+fn random_offers(random: &mut Random) -> Vec<Offer> {
     let step = random.pick(&[1, 2, 3]);
     let first = match random.below(8) {
         0 => step,

@@ -23,7 +23,8 @@ pub fn read_file(file: &[u8]) -> Result<Records, Refusal> {
     Ok(Records::of(&records))
 }
 
-/// Each of refusals 3, 4, 13 and 14 that has a case in a record, whether or not a lower one has.
+/// Each of refusals 3, 4, 13 and 14 that has a case in a record, whether or not a lower one has; 14
+/// only where the record ends a span.
 pub fn faults(records: &[&[u8]], place: usize) -> Vec<u64> {
     let record = records[place];
     let before = place.checked_sub(1).map(|place| records[place]);
@@ -40,7 +41,8 @@ pub fn faults(records: &[&[u8]], place: usize) -> Vec<u64> {
         7 => !are_a_span(before, Some(record)),
         _ => false,
     };
-    let bad_line = kind == 7 && before.is_some_and(|lower| !is_line(&span(lower, record)));
+    let is_bad_line = |lower: &[u8]| !is_line(&span(lower, record));
+    let bad_line = kind == 7 && !broken && before.is_some_and(is_bad_line);
     let cases = [
         (3, ![1, 2, 6, 7].contains(&kind)),
         (4, wrong_field),

@@ -3,8 +3,11 @@
 use crate::common::{cases, cleared, Span};
 use crate::dynamic::{best_total, possible_with};
 use crate::files::random_file;
-use crate::reading::{faults, is_price, read_file, span, Records, Refusal};
+use crate::reading::{faults, is_line, is_price, read_file, span, Records, Refusal};
 use std::collections::{BTreeMap, HashSet};
+
+/// The number of files, if the environment says none.
+const FILES: u64 = 250_000;
 
 /// What a file can be a case of.
 #[derive(Clone, Copy, Debug, PartialEq, Eq, PartialOrd, Ord)]
@@ -13,7 +16,8 @@ enum Case {
     Given(u64),
     /// Both have their case, and the first is given.
     Both(u64, u64),
-    /// Both have their case in one record, and the first is given there.
+    /// Both have their case in one record, and the first is given there. No record has 13 and 14;
+    /// these two are met where 14 would be given if the record before were a kind 6.
     InOneRecord(u64, u64),
     /// The first is given at a record, and the second has its case in the next one.
     InNeighbours(u64, u64),
@@ -97,7 +101,12 @@ fn faulty_cases(records: &[&[u8]], place: usize) -> Vec<Case> {
     }
     match number {
         4 => cases.push(Case::WrongField(records[place][0])),
-        13 => cases.push(alone(records, place)),
+        13 => {
+            cases.push(alone(records, place));
+            if would_be_a_bad_line(records, place) {
+                cases.push(Case::InOneRecord(13, 14));
+            }
+        }
         14 => {
             let found = span_faults(&span(records[place - 1], records[place]));
             cases.extend(found.into_iter().map(Case::BadSpan));
@@ -116,6 +125,11 @@ fn alone(records: &[&[u8]], place: usize) -> Case {
     let kinds = [1, 2, 6, 7];
     let known = |record: &&[u8]| kinds.into_iter().find(|kind| record[0] == *kind);
     Case::Alone(kind, beside.map(|record| known(record).unwrap_or(0)))
+}
+
+/// Whether a record is a kind 7 that would end a bad span if the record before were a kind 6.
+fn would_be_a_bad_line(records: &[&[u8]], place: usize) -> bool {
+    records[place][0] == 7 && place > 0 && !is_line(&span(records[place - 1], records[place]))
 }
 
 fn span_faults(span: &Span) -> Vec<Fault> {
@@ -177,10 +191,12 @@ fn to_be_met() -> Vec<(Case, u64)> {
         cases.push((Case::InOneRecord(first, other), 10_000));
     }
     for first in [3, 4, 13, 14] {
-        for other in [3, 4, 13, 14] {
+        for other in [3, 4, 13] {
             cases.push((Case::InNeighbours(first, other), 10_000));
         }
     }
+    // Before a kind 7 at fault by 14 is a kind 6 that has its other half: only 4 is left for it.
+    cases.push((Case::InNeighbours(4, 14), 10_000));
     cases.extend([1, 2, 6, 7].map(|kind| (Case::WrongField(kind), 1000)));
     for beside in [None, Some(0), Some(1), Some(2), Some(6), Some(7)] {
         cases.push((Case::Alone(6, beside), 10_000));
@@ -210,7 +226,7 @@ fn to_be_met() -> Vec<(Case, u64)> {
 #[test]
 fn every_file_is_refused_as_the_table_says() {
     let mut met = BTreeMap::new();
-    let count = cases("CLEARING_FILES", 250_000, |random| {
+    let count = cases("CLEARING_FILES", FILES, |random| {
         let file = random_file(random);
         let read = read_file(&file);
         let n = read.as_ref().map_or(0, Records::n);
@@ -254,9 +270,7 @@ fn every_file_is_refused_as_the_table_says() {
     });
     for (case, one_in) in to_be_met() {
         let seen = met.get(&case).copied().unwrap_or(0);
-        assert!(
-            seen >= count / one_in,
-            "{case:?} in {seen} of {count} files"
-        );
+        let least = (count / one_in).max(u64::from(count >= FILES));
+        assert!(seen >= least, "{case:?} in {seen} of {count} files");
     }
 }

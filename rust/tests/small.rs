@@ -18,6 +18,14 @@ pub fn random_sheet_with_spans(random: &mut Random) -> Sheet {
     random_market(most_spans, random)
 }
 
+/// A market of points alone, or one with spans.
+pub fn any_sheet(random: &mut Random) -> Sheet {
+    match random.one_in(2) {
+        true => random_sheet(random),
+        false => random_sheet_with_spans(random),
+    }
+}
+
 fn random_market(most_spans: usize, random: &mut Random) -> Sheet {
     let n = 1 + random.below(6);
     let mut members: Vec<usize> = (1..=n).collect();

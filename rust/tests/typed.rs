@@ -3,7 +3,7 @@
 use crate::common::{cases, Random, Sheet};
 use crate::examples::committed;
 use crate::files::random_file;
-use crate::small::random_sheet;
+use crate::small::any_sheet;
 use crate::text::any_file;
 use clearing::{
     clear, clear_file, clear_market, Answer, Lower, Market, Member, NoAnswer, Offer, Price, Record,
@@ -19,6 +19,11 @@ fn market(sheet: &Sheet) -> Market {
     for offer in &sheet.offers {
         let (units, price) = (Units(offer.units as i16), Price(offer.price as i32));
         market.offer(Member(offer.member as u8), units, price);
+    }
+    for span in &sheet.spans {
+        let (low, high) = (Units(span.low as i16), Units(span.high as i16));
+        let (slope, base) = (Slope(span.slope as i32), Price(span.base as i32));
+        market.span(Member(span.member as u8), low, high, slope, base);
     }
     market
 }
@@ -44,7 +49,7 @@ fn bytes(answer: &Answer) -> Vec<u8> {
 #[test]
 fn a_typed_market_is_its_records_and_its_answer_the_bytes() {
     cases("CLEARING_SMALL", 10_000, |random| {
-        let sheet = random_sheet(random);
+        let sheet = any_sheet(random);
         let market = market(&sheet);
         assert_eq!(market.file(), sheet.records().concat());
         let mut area = [0; ANSWER_LIMIT];
@@ -61,7 +66,7 @@ fn a_typed_market_is_its_records_and_its_answer_the_bytes() {
 #[test]
 fn an_answer_has_the_capacities_of_its_market_and_finds_members_and_links() {
     cases("CLEARING_SMALL", 10_000, |random| {
-        let sheet = random_sheet(random);
+        let sheet = any_sheet(random);
         let Ok(answer) = clear_file(&sheet.file(random)) else {
             return;
         };
@@ -98,7 +103,7 @@ fn any_bytes_have_a_typed_result() {
 #[test]
 fn a_market_is_read_back_as_it_was_made() {
     cases("CLEARING_SMALL", 10_000, |random| {
-        let sheet = random_sheet(random);
+        let sheet = any_sheet(random);
         let market = market(&sheet);
         let mut again = Market::new();
         for link in market.links() {
