@@ -123,6 +123,23 @@ module _ (r : Reading) (e : Entry) (is : r ≡ readingOf e) where
   unfolding tagged
   not-fault t k h = other 0 1 2 3 (λ s. omega arith) (λ s. omega arith) (λ s. omega arith) t (ap tagged h)
 
+-- a record of kind 6 is no offer
+begin-other : (f : List ℕ) (i : ℕ) (o : Offer) → beginAt f i ≡ offer o → ⊥
+unfolding beginAt tagged
+begin-other f i o = go (fieldsFit f i) (unfinished f i)
+  where
+    go : (a b : Bool) → cond a (cond b (fault 13) (begins (byte f i 1))) (fault 4) ≡ offer o → ⊥
+    go true true e = let z : _≡_ {A = ℕ} 3 1 = ap tagged e in omega arith
+    go true false e = let z : _≡_ {A = ℕ} 2 1 = ap tagged e in omega arith
+    go false b e = let z : _≡_ {A = ℕ} 3 1 = ap tagged e in omega arith
+
+pub kind-6 : (f : List ℕ) (i : ℕ) → byte f i 0 ≡ 6 → (o : Offer) → entryAt f i ≡ offer o → ⊥
+unfolding entryAt
+kind-6 f i e o h = begin-other f i o (sym is ∙ h)
+  where
+    is : entryAt f i ≡ beginAt f i
+    is = rw e refl
+
 -- ---- the numbers of a link and of an offer are in range, and a fault is one of four refusals
 pub record LinkFits (l : Link) : Type 0 where
   pub low : 1 ≤ l .a

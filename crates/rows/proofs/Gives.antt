@@ -27,7 +27,7 @@ use Rattle.records.specs.Records.Entry.{link, offer, begins, fault}
 use Rattle.records.specs.inner.Cases.{termsIn, readingOf}
 use Rattle.records.specs.Market.{offersOf}
 use Rattle.records.proofs.Reading.{the-type}
-use Rattle.records.proofs.Entries.{rest, ended, offer-is, not-offer, Fits, MemberIs, Known, entry-known, by-record}
+use Rattle.records.proofs.Entries.{rest, ended, offer-is, not-offer, kind-6, Fits, MemberIs, Known, entry-known, by-record}
 use Rattle.rows.specs.declared.Span.{Span}
 use Rattle.rows.specs.declared.Offered.{Offered}
 use Rattle.rows.specs.declared.Offered.the-variants as Offered
@@ -111,6 +111,10 @@ module _ (f : List ℕ) (i : ℕ) where
   pub other-member : (j : ℕ) → (byte f i 1 ≡ j → ⊥) → (x : ℤ) → given f i j x ≡ 0
   unfolding given
   other-member j h x = other j x (byte f i 1) (entryAt f i) (entry-known f i .member-is) h
+
+  pub a-beginning : byte f i 0 ≡ 6 → (j : ℕ) (x : ℤ) → given f i j x ≡ 0
+  unfolding given
+  a-beginning e j x = not-offered j x (entryAt f i) (kind-6 f i e)
 
   module _ (r : Reading) (is : r ≡ readingOf (entryAt f i)) where
     pub no-offer : OneOf (0 ∷ 2 ∷ 3 ∷ []) (tagOf the-type r) → (j : ℕ) (x : ℤ) → given f i j x ≡ 0

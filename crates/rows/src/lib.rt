@@ -78,12 +78,15 @@ enum Offered {
     Nothing,
 }
 
-// What record i offers member j. A record of another member is not read any further.
+// What record i offers member j. A record of another member, or one that only begins a span, is not read any further.
 fn offer_at(records: &[u8], i: usize, j: Member) -> Offered
     requires { ⌜ 8 * i + 8 ≤ length (now records) ⌝ }
     ensures { λ r. ⌜ Offers (given (now (records .entry)) i (j .0)) r ⌝ }
 {
     if records[8 * i + 1] != j.0 {
+        return Offered::Nothing;
+    }
+    if records[8 * i] == 6 {
         return Offered::Nothing;
     }
     let Reading::Offer(_, t) = records::read_at(records, i) else {
