@@ -22,7 +22,7 @@ extern "C" {
 /// Gives the number of bytes written, 16 for each member; the bytes after them stay as they were.
 /// A refusal changes no byte. [`ANSWER_LIMIT`] bytes are enough for every market.
 ///
-/// A call needs [`STACK`] bytes of stack at most (69,288 were measured, by the example `bench`) and
+/// A call needs [`STACK`] bytes of stack at most (69,304 were measured, by the example `bench`) and
 /// no heap.
 ///
 /// # Panics
