@@ -1,4 +1,5 @@
--- A refusal of a file is one that the table allows: its number is not 8, and its place has 16 bits. Assumes nothing.
+-- A refusal of a file is one that the table allows: its number is listed, and its place has 16 bits. Assumes nothing.
+use mathlib.Core.Path.{refl}
 use mathlib.Core.Bool.{Bool, true, false}
 use mathlib.Core.List.{List, [], _∷_}
 use mathlib.Core.Option.{some, Option·none-ne-some}
@@ -35,8 +36,8 @@ from9-allowed : (f : List ℕ) → length f ≤ fileLimit → IfAllowed (from9 f
 unfolding apart entries
 from9-allowed f h =
     first-allowed (refusal 9 (firstRecord closes 0 [] (entries f))) (from10 f)
-    (refusal-allowed 9 _ (λ q. omega (arith, q)) (record-placed closes f 0 (length f / 8) [] (omega arith)))
-    (λ e9. refusal-allowed 10 _ (λ q. omega (arith, q)) (member-placed _ f))
+    (refusal-allowed 9 _ refl (record-placed closes f 0 (length f / 8) [] (omega arith)))
+    (λ e9. refusal-allowed 10 _ refl (member-placed _ f))
 
 -- refusals 1 to 10, 13 and 14
 pub file-allowed : (f : List ℕ) → IfAllowed (fileRefusal f)
@@ -44,9 +45,9 @@ unfolding fileRefusal noOffer without tooMany
 file-allowed f =
     first-allowed _ _ (unsound-allowed f)
     (λ e.
-    first-allowed _ _ (refusal-allowed 5 _ (λ q. omega (arith, q)) (placed-if _ _ (λ t. omega arith)))
+    first-allowed _ _ (refusal-allowed 5 _ refl (placed-if _ _ (λ t. omega arith)))
     (λ e5.
-    first-allowed _ _ (refusal-allowed 6 _ (λ q. omega (arith, q)) (member-placed _ f))
+    first-allowed _ _ (refusal-allowed 6 _ refl (member-placed _ f))
     (λ e6.
-    first-allowed _ _ (refusal-allowed 7 _ (λ q. omega (arith, q)) (member-placed _ f))
+    first-allowed _ _ (refusal-allowed 7 _ refl (member-placed _ f))
     (λ e7. from9-allowed f (sound-short f e)))))

@@ -1,21 +1,30 @@
--- A refusal that is given is one that the table allows: its number is not 8, and its place has 16 bits, so that the number returned
--- tells both. Here of refusals 1 to 4, 13 and 14, and of any that are tried one after the other. Assumes nothing.
-use mathlib.Core.Path.{_≡_, refl, subst}
-use mathlib.Core.Bool.{Bool, true, false}
+-- A refusal of a file or an area is one that the table allows: its number is listed for them, and its place has 16 bits, so that the
+-- number returned tells both. Here of refusals 1 to 4, 13 and 14, and of any that are tried one after the other. Assumes nothing.
+use mathlib.Core.Path.{_≡_, refl, sym, ap, _∙_, subst}
+use mathlib.Core.Bool.{Bool, true, false, not, _||_}
 use mathlib.Core.List.{List, _∷_}
 use mathlib.Core.Logic.{inl, inr}
 use mathlib.Core.Option.{Option, none, some, Option·none-ne-some, Option·some-injective}
 use Prim.Native.Nat.{ℕ, zero, suc, _+_, _/_, _≤_, _<_}
 use native.Mathlib.Omega.{arith}
+use lib.Dec.{eqb}
 use lib.ListN.{length}
+use Rattle.numbers.proofs.Tests.{true-false}
 use Rattle.records.specs.Records.{Entry, entryAt, entriesFrom, entries}
 use Rattle.records.specs.Records.Entry.{link, offer, begins, fault}
 use Rattle.records.specs.Refusals.{Refusal, refusal, _otherwise_, placeIf, tooLong, notWhole, faulty, unsound}
 use Rattle.records.proofs.Entries.{Fits, entry-fits, short-file}
 
+-- 0 and 8 stand for nothing, and 12 is a market's
+abbrev pub listed : ℕ → Bool
+listed k = not (eqb k 0 || eqb k 8 || eqb k 12)
+
 pub record Allowed (r : Refusal) : Type 0 where
-  pub not-8 : r .number ≡ 8 → ⊥
+  pub number : listed (r .number) ≡ true
   pub place : r .place < 65536
+
+pub unlisted : (k : ℕ) → listed k ≡ false → {r : Refusal} → Allowed r → r .number ≡ k → ⊥
+unlisted k n a e = true-false (sym (a .number) ∙ ap listed e ∙ n)
 
 -- the refusal, if there is one, is allowed
 abbrev pub IfAllowed : Option Refusal → Type 0
@@ -33,10 +42,10 @@ unfolding placeIf
 placed-if true i h p e = here (h refl) p e
 placed-if false i h p e = absurd (Option·none-ne-some p e)
 
-this-allowed : {k i : ℕ} → (k ≡ 8 → ⊥) → i < 65536 → IfAllowed (some (record { number = k; place = i }))
-this-allowed {k} {i} h l r e = subst Allowed (Option·some-injective (record { number = k; place = i }) r e) (record { not-8 = h; place = l })
+this-allowed : {k i : ℕ} → listed k ≡ true → i < 65536 → IfAllowed (some (record { number = k; place = i }))
+this-allowed {k} {i} h l r e = subst Allowed (Option·some-injective (record { number = k; place = i }) r e) (record { number = h; place = l })
 
-pub refusal-allowed : (k : ℕ) (o : Option ℕ) → (k ≡ 8 → ⊥) → IfPlaced o → IfAllowed (refusal k o)
+pub refusal-allowed : (k : ℕ) (o : Option ℕ) → listed k ≡ true → IfPlaced o → IfAllowed (refusal k o)
 unfolding refusal
 refusal-allowed k none h l r e = absurd (Option·none-ne-some r e)
 refusal-allowed k (some p) h l r e = this-allowed h (l p refl) r e
@@ -53,13 +62,13 @@ unfolding faulty
 faulty-one i (link l) es h b t = t
 faulty-one i (offer o) es h b t = t
 faulty-one i (begins j) es h b t = t
-faulty-one i (fault k) es h b t = this-allowed (not-8 h) b
+faulty-one i (fault k) es h b t = this-allowed (given h) b
   where
-    not-8 : Fits (fault k) → k ≡ 8 → ⊥
-    not-8 (inl e) q = omega arith
-    not-8 (inr (inl e)) q = omega arith
-    not-8 (inr (inr (inl e))) q = omega arith
-    not-8 (inr (inr (inr e))) q = omega arith
+    given : Fits (fault k) → listed k ≡ true
+    given (inl e) = ap listed e
+    given (inr (inl e)) = ap listed e
+    given (inr (inr (inl e))) = ap listed e
+    given (inr (inr (inr e))) = ap listed e
 
 faulty-allowed : (f : List ℕ) (i n : ℕ) → i + n ≤ 65536 → IfAllowed (faulty i (entriesFrom f i n))
 unfolding entriesFrom faulty
@@ -69,7 +78,7 @@ faulty-allowed f i (suc n) h = faulty-one i (entryAt f i) (entriesFrom f (suc i)
 pub unsound-allowed : (f : List ℕ) → IfAllowed (unsound f)
 unfolding unsound tooLong notWhole entries
 unsound-allowed f =
-    first-allowed _ _ (refusal-allowed _ _ (λ q. omega (arith, q)) (placed-if _ _ (λ t. omega arith)))
+    first-allowed _ _ (refusal-allowed _ _ refl (placed-if _ _ (λ t. omega arith)))
     (λ e.
-    first-allowed _ _ (refusal-allowed _ _ (λ q. omega (arith, q)) (placed-if _ _ (λ t. omega arith)))
+    first-allowed _ _ (refusal-allowed _ _ refl (placed-if _ _ (λ t. omega arith)))
     (λ e2. faulty-allowed f 0 (length f / 8) (omega (arith, short-file f e))))
