@@ -4,7 +4,6 @@
 use mathlib.Core.Path.{_≡_, refl, sym, ap, _∙_, subst₂, fun-ext}
 use mathlib.Core.Logic.{_≢_, inl, inr}
 use mathlib.Core.Bool.{Bool, true, false}
-use mathlib.Core.List.{List}
 use Prim.Native.Nat.{ℕ, zero, suc, _+_, _-_, _*_, _/_, _%_, _≤_, _<_, pred}
 use native.Mathlib.Nat.{mul-add, add-mul, mul-suc, mul-zero, zero-mul, mul-le-mul-left, le-of-mul-le-mul-left, lt-of-mul-lt-mul-left, div-add-mod, mod-lt, eq-zero-or-pos}
 use native.Mathlib.Omega.{arith}
@@ -12,8 +11,7 @@ use lib.Dec.{eqb, leb}
 use borrow.Author.Tests.{leb-true, leb-false}
 use Rattle.problem.proofs.Cell.{_⊕_, ⊕-one, ⊕-left, ⊕-right, ⊕-some}
 use Rattle.problem.proofs.Max.{pick, maxTo, argmax, first-max}
-use Rattle.problem.proofs.Form.{Walk, Rising, run, Fits, value}
-use Rattle.problem.proofs.Answer.{start, run-upper}
+use Rattle.problem.proofs.Form.{Walk, run}
 
 -- v is at most a times F's price at t and r times that at t + 1, both being there where they count
 pub record Mixed (F : ℕ → ℕ) (t a r v : ℕ) : Type 0 where
@@ -182,7 +180,7 @@ unfolding join
 merged g F G w e = fun-ext (λ x. ap (λ (f : ℕ → ℕ). maxTo f w) (fun-ext (λ p. sym (rw (e p) (⊕-one _)))))
 
 module _ (d : ℕ) (k : Walk) (rowd : ℕ → ℕ → ℕ) (free : (i p : ℕ) → k .gain i p ≡ 1) (finer : (j : ℕ) → Finer d (rowd j) (k .row j)) where
-  pub run-finer : (m i j : ℕ) → Finer d (run (fine d k rowd) m i j) (run k m i j)
+  run-finer : (m i j : ℕ) → Finer d (run (fine d k rowd) m i j) (run k m i j)
   unfolding run
   run-finer zero i j = finer j
   run-finer (suc m) i j =
@@ -193,10 +191,9 @@ module _ (d : ℕ) (k : Walk) (rowd : ℕ → ℕ → ℕ) (free : (i p : ℕ) �
       (join-finer d _ _ _ _ (k .wide i) (run-finer m (suc i) i) (run-finer m (suc i) (k .par i))))
       (run-finer m (suc i) j)
 
-  -- No allocation in d-ths is worth more than d times the whole-unit total, and where there is one in d-ths there is one in wholes.
-  pub fractions : Rising k → 1 ≤ d → (m : ℕ) (ps : List ℕ) → Fits (fine d k rowd) m 1 ps → value (fine d k rowd) 1 start ps ≢ 0
-      → (run k m 1 0 0 ≢ 0) × (pred (value (fine d k rowd) 1 start ps) ≤ d * pred (run k m 1 0 0))
-  fractions up h m ps t n =
-      let top = run-upper (fine d k rowd) up m t in
-      let mixed = run-finer m 1 0 0 0 d 0 (omega arith) h (omega (arith, mul-zero d)) (omega arith) in
+  -- where there is a total in d-ths there is one in whole units, and d times that is no less
+  pub run-no-more : 1 ≤ d → (m : ℕ) → run (fine d k rowd) m 1 0 0 ≢ 0
+      → (run k m 1 0 0 ≢ 0) × (pred (run (fine d k rowd) m 1 0 0) ≤ d * pred (run k m 1 0 0))
+  run-no-more h m n =
+      let mixed = run-finer m 1 0 0 0 d 0 (omega arith) h (omega (arith, mul-zero d)) n in
       (mixed .low, omega (arith, mixed .under, zero-mul (pred (run k m 1 0 1))))

@@ -45,36 +45,18 @@ ones-possible m = ap Possible (ones m)
 -- ---- nets in d-ths
 
 module _ (d : ℕ) where
-  -- links in d-ths have the same ends
-  bought-in : (j : ℕ) (ls : List Link) (ys : List ℤ) → bought j (map (linkIn d) ls) ys ≡ bought j ls ys
-  unfolding bought
-  bought-in j [] ys = refl
-  bought-in j (l ∷ ls) [] = refl
-  bought-in j (l ∷ ls) (y ∷ ys) = ap (λ (z : ℤ). cond (eqb j (l .b)) y (pos 0) +ℤ z) (bought-in j ls ys)
-
-  sold-in : (j : ℕ) (ls : List Link) (ys : List ℤ) → sold j (map (linkIn d) ls) ys ≡ sold j ls ys
-  unfolding sold
-  sold-in j [] ys = refl
-  sold-in j (l ∷ ls) [] = refl
-  sold-in j (l ∷ ls) (y ∷ ys) = ap (λ (z : ℤ). cond (eqb j (l .a)) y (pos 0) +ℤ z) (sold-in j ls ys)
-
-  pub net-in : (j : ℕ) (ls : List Link) (ys : List ℤ) → net j (map (linkIn d) ls) ys ≡ net j ls ys
-  unfolding net
-  net-in j ls ys = ap₂ _-ℤ_ (bought-in j ls ys) (sold-in j ls ys)
-
-  -- d times the flows, d times the nets
   part-times : (b : Bool) (y : ℤ) → cond b (pos d *ℤ y) (pos 0) ≡ pos d *ℤ cond b y (pos 0)
   part-times true y = refl
   part-times false y = sym (*ℤ-zero (pos d))
 
-  bought-times : (j : ℕ) (ls : List Link) (ys : List ℤ) → bought j ls (flowsIn d ys) ≡ pos d *ℤ bought j ls ys
+  bought-times : (j : ℕ) (ls : List Link) (ys : List ℤ) → bought j (map (linkIn d) ls) (flowsIn d ys) ≡ pos d *ℤ bought j ls ys
   unfolding bought
   bought-times j [] ys = sym (*ℤ-zero (pos d))
   bought-times j (l ∷ ls) [] = sym (*ℤ-zero (pos d))
   bought-times j (l ∷ ls) (y ∷ ys) =
       ap₂ _+ℤ_ (part-times (eqb j (l .b)) y) (bought-times j ls ys) ∙ sym (times-plus (pos d) (cond (eqb j (l .b)) y (pos 0)) (bought j ls ys))
 
-  sold-times : (j : ℕ) (ls : List Link) (ys : List ℤ) → sold j ls (flowsIn d ys) ≡ pos d *ℤ sold j ls ys
+  sold-times : (j : ℕ) (ls : List Link) (ys : List ℤ) → sold j (map (linkIn d) ls) (flowsIn d ys) ≡ pos d *ℤ sold j ls ys
   unfolding sold
   sold-times j [] ys = sym (*ℤ-zero (pos d))
   sold-times j (l ∷ ls) [] = sym (*ℤ-zero (pos d))
@@ -83,8 +65,7 @@ module _ (d : ℕ) where
 
   net-times : (j : ℕ) (ls : List Link) (ys : List ℤ) → net j (map (linkIn d) ls) (flowsIn d ys) ≡ pos d *ℤ net j ls ys
   unfolding net
-  net-times j ls ys =
-      net-in j ls (flowsIn d ys) ∙ ap₂ _-ℤ_ (bought-times j ls ys) (sold-times j ls ys) ∙ sym (times-minus (pos d) (bought j ls ys) (sold j ls ys))
+  net-times j ls ys = ap₂ _-ℤ_ (bought-times j ls ys) (sold-times j ls ys) ∙ sym (times-minus (pos d) (bought j ls ys) (sold j ls ys))
 
   range-times : {ls : List Link} {ys : List ℤ} → InRange ls ys → InRange (map (linkIn d) ls) (flowsIn d ys)
   range-times InRange.end = InRange.end
