@@ -10,7 +10,7 @@ use lib.Dec.{eqb, ltb}
 use lib.ListN.{length, length-map}
 use Rattle.problem.specs.Problem.{Link, Market, joins, neighbours, lowest}
 use Rattle.problem.specs.Fractions.{linkIn, marketIn}
-use Rattle.problem.proofs.Tree.{Tree, Joined, Open, Within}
+use Rattle.problem.proofs.Tree.{Tree, Open, Within}
 use Rattle.problem.proofs.Links.{joined-along}
 use Rattle.problem.proofs.Max.{pick}
 use Rattle.problem.proofs.Perm.{fold}

@@ -1,6 +1,7 @@
--- Fractions pay no more, in walk form. In d-ths every index, choice and width is d times as fine, and a cell of a row is at most the mix
--- of the whole-unit row's two cells beside it. Elimination keeps that, so that the total in d-ths is at most d times the whole-unit one.
--- Assumes nothing.
+-- Fractions pay no more, in walk form. In d-ths every index, choice and width is d times as fine. Index y = d t + r lies between the whole
+-- units t and t + 1, and a row in d-ths is finer than a whole-unit row where its price at y is at most a = d - r times the whole-unit
+-- price at t and r times that at t + 1. Elimination keeps that, so that at index 0 the total in d-ths is at most d times the whole-unit
+-- total. Assumes nothing.
 use mathlib.Core.Path.{_≡_, refl, sym, ap, _∙_, subst₂, fun-ext}
 use mathlib.Core.Logic.{_≢_, inl, inr}
 use mathlib.Core.Bool.{Bool, true, false}
@@ -19,17 +20,22 @@ pub record Mixed (F : ℕ → ℕ) (t a r v : ℕ) : Type 0 where
   pub high : r ≢ 0 → F (suc t) ≢ 0
   pub under : v ≤ a * pred (F t) + r * pred (F (suc t))
 
--- G, over d-ths, is nowhere above F, over wholes
+-- the row G, in d-ths, is finer than the whole-unit row F
 abbrev pub Finer : ℕ → (ℕ → ℕ) → (ℕ → ℕ) → Type 0
 Finer d G F = (y t a r : ℕ) → a + r ≡ d → 1 ≤ a → y ≡ d * t + r → G y ≢ 0 → Mixed F t a r (pred (G y))
 
+-- ---- a message F joined to a row G over a link of width w: choice p and index z make index y where p + z = y + d w
+
+-- an inequality counts only where its factor does
 pub scale-le : (r x y : ℕ) → (r ≢ 0 → x ≤ y) → r * x ≤ r * y
 scale-le zero x y h = omega (arith, zero-mul x, zero-mul y)
 scale-le (suc r) x y h = mul-le-mul-left (suc r) (h (omega arith))
 
-mix₁ : (A r s f0 f1 g0 g1 h0 h1 : ℕ) → f0 + g0 ≤ h0 → (r ≢ 0 → f1 + g0 ≤ h1) → (s ≢ 0 → f0 + g1 ≤ h1)
+-- Let p, z and y be t, S and X units and the parts r, s and R. Where r + s = R, the prices at t and S are for X, and those at t + 1 and S
+-- or at t and S + 1 for X + 1.
+mix-short : (A r s f0 f1 g0 g1 h0 h1 : ℕ) → f0 + g0 ≤ h0 → (r ≢ 0 → f1 + g0 ≤ h1) → (s ≢ 0 → f0 + g1 ≤ h1)
     → ((A + s) * f0 + r * f1) + ((A + r) * g0 + s * g1) ≤ A * h0 + (r + s) * h1
-mix₁ A r s f0 f1 g0 g1 h0 h1 p q o =
+mix-short A r s f0 f1 g0 g1 h0 h1 p q o =
     omega (
       arith,
       mul-le-mul-left A p,
@@ -43,9 +49,10 @@ mix₁ A r s f0 f1 g0 g1 h0 h1 p q o =
       add-mul r s h1,
     )
 
-mix₂ : (a b R f0 f1 g0 g1 h0 h1 : ℕ) → f0 + g1 ≤ h0 → f1 + g0 ≤ h0 → (R ≢ 0 → f1 + g1 ≤ h1)
+-- Where r + s = d + R, the prices at t and S + 1 or at t + 1 and S are for X, and those at t + 1 and S + 1 for X + 1.
+mix-over : (a b R f0 f1 g0 g1 h0 h1 : ℕ) → f0 + g1 ≤ h0 → f1 + g0 ≤ h0 → (R ≢ 0 → f1 + g1 ≤ h1)
     → (a * f0 + (b + R) * f1) + (b * g0 + (a + R) * g1) ≤ (a + b) * h0 + R * h1
-mix₂ a b R f0 f1 g0 g1 h0 h1 p q o =
+mix-over a b R f0 f1 g0 g1 h0 h1 p q o =
     omega (
       arith,
       mul-le-mul-left a p,
@@ -59,23 +66,25 @@ mix₂ a b R f0 f1 g0 g1 h0 h1 p q o =
       add-mul a b h0,
     )
 
-pub record Above (a b c : ℕ) : Type 0 where
+-- the price of c is no less than those of a and b together
+record Above (a b c : ℕ) : Type 0 where
   pub there : c ≢ 0
   pub sum : pred a + pred b ≤ pred c
 
 above : (a b c : ℕ) → a ≢ 0 → b ≢ 0 → a ⊕ b ≤ c → Above a b c
 above a b c n m h = record { there = omega (arith, ⊕-some a b n m); sum = omega (arith, ⊕-some a b n m) }
 
-unfoldable pub join : (ℕ → ℕ) → (ℕ → ℕ) → ℕ → ℕ → ℕ
+-- elimination's step: the best of the choices p from 0 to w
+unfoldable join : (ℕ → ℕ) → (ℕ → ℕ) → ℕ → ℕ → ℕ
 join F G w x = maxTo (λ p. F p ⊕ G (x + (w - p))) w
 
 join-above : (F G : ℕ → ℕ) (w x p z : ℕ) → p ≤ w → z ≡ x + (w - p) → F p ≢ 0 → G z ≢ 0 → Above (F p) (G z) (join F G w x)
 unfolding join
 join-above F G w x p z l e n m = above (F p) (G z) _ n m (rw e (first-max (λ p. F p ⊕ G (x + (w - p))) w .upper p l))
 
-term₁ : (F G : ℕ → ℕ) (w A r s t X v u : ℕ) → t ≤ w → (r ≢ 0 → t < w) → Mixed F t (A + s) r v → Mixed G (X + (w - t)) (A + r) s u
+short : (F G : ℕ → ℕ) (w A r s t X v u : ℕ) → t ≤ w → (r ≢ 0 → t < w) → Mixed F t (A + s) r v → Mixed G (X + (w - t)) (A + r) s u
     → Mixed (join F G w) X A (r + s) (v + u)
-term₁ F G w A r s t X v u l l′ f g =
+short F G w A r s t X v u l l′ f g =
     let S = X + (w - t) in
     let h0 = join-above F G w X t S l refl (f .low) (g .low) in
     record {
@@ -86,7 +95,7 @@ term₁ F G w A r s t X v u l l′ f g =
             arith,
             f .under,
             g .under,
-            mix₁ A r s (pred (F t)) (pred (F (suc t))) (pred (G S)) (pred (G (suc S))) (pred (join F G w X)) (pred (join F G w (suc X)))
+            mix-short A r s (pred (F t)) (pred (F (suc t))) (pred (G S)) (pred (G (suc S))) (pred (join F G w X)) (pred (join F G w (suc X)))
                 (h0 .sum) (λ n. next n .sum) (λ n. late n .sum),
           );
     }
@@ -97,9 +106,9 @@ term₁ F G w A r s t X v u l l′ f g =
     late : s ≢ 0 → Above (F t) (G (suc (X + (w - t)))) (join F G w (suc X))
     late n = join-above F G w (suc X) t (suc (X + (w - t))) l (omega arith) (f .low) (g .high n)
 
-term₂ : (F G : ℕ → ℕ) (w a b R t X v u : ℕ) → 1 ≤ a → 1 ≤ b → t < w → Mixed F t a (b + R) v → Mixed G (X + (w - suc t)) b (a + R) u
+over : (F G : ℕ → ℕ) (w a b R t X v u : ℕ) → 1 ≤ a → 1 ≤ b → t < w → Mixed F t a (b + R) v → Mixed G (X + (w - suc t)) b (a + R) u
     → Mixed (join F G w) X (a + b) R (v + u)
-term₂ F G w a b R t X v u ha hb l f g =
+over F G w a b R t X v u ha hb l f g =
     let S = X + (w - suc t) in
     let f1 : F (suc t) ≢ 0 = f .high (omega arith) in
     let g1 : G (suc S) ≢ 0 = g .high (omega arith) in
@@ -114,13 +123,13 @@ term₂ F G w a b R t X v u ha hb l f g =
             arith,
             f .under,
             g .under,
-            mix₂ a b R (pred (F t)) (pred (F (suc t))) (pred (G S)) (pred (G (suc S))) (pred (join F G w X)) (pred (join F G w (suc X)))
+            mix-over a b R (pred (F t)) (pred (F (suc t))) (pred (G S)) (pred (G (suc S))) (pred (join F G w X)) (pred (join F G w (suc X)))
                 (p0 .sum) (q0 .sum) (λ n. o1 .sum),
           );
     }
 
 module _ (d : ℕ) (Fd F Gd G : ℕ → ℕ) (w : ℕ) (hF : Finer d Fd F) (hG : Finer d Gd G) where
-  -- one term: p = d t + r of the choice, y = d X + R of the index
+  -- each choice, by whether r is at most R
   term : (p t a r y X A R : ℕ) → a + r ≡ d → 1 ≤ a → p ≡ d * t + r → p ≤ d * w → A + R ≡ d → 1 ≤ A → y ≡ d * X + R
       → Fd p ≢ 0 → Gd (y + (d * w - p)) ≢ 0 → Mixed (join F G w) X A R (pred (Fd p) + pred (Gd (y + (d * w - p))))
   term p t a r y X A R ea ha ep lp eA hA ey nF nG = go (leb r R) refl
@@ -140,7 +149,7 @@ module _ (d : ℕ) (Fd F Gd G : ℕ → ℕ) (w : ℕ) (hF : Finer d Fd F) (hG :
           let f : Mixed F t (A + s) r (pred (Fd p)) = hF p t (A + s) r (omega arith) (omega arith) ep nF in
           let g = hG (y + (d * w - p)) (X + u) (A + r) s (omega arith) (omega arith) (omega (arith, mul-add d X u, wide)) nG in
           let eR : R ≡ r + s = omega arith in
-          rw eR (term₁ F G w A r s t X _ _ within below f g)
+          rw eR (short F G w A r s t X _ _ within below f g)
       go false e =
           let b = r - R in
           let l : R < r = leb-false r R e in
@@ -150,7 +159,7 @@ module _ (d : ℕ) (Fd F Gd G : ℕ → ℕ) (w : ℕ) (hF : Finer d Fd F) (hG :
           let f : Mixed F t a (b + R) (pred (Fd p)) = hF p t a (b + R) (omega arith) ha (omega arith) nF in
           let g = hG (y + (d * w - p)) (X + u) b (a + R) (omega arith) (omega arith) (omega (arith, mul-add d X u, wide)) nG in
           let eA : A ≡ a + b = omega arith in
-          rw eA (term₂ F G w a b R t X _ _ ha (omega arith) next f g)
+          rw eA (over F G w a b R t X _ _ ha (omega arith) next f g)
 
   join-finer : Finer d (join Fd Gd (d * w)) (join F G w)
   unfolding join
@@ -166,6 +175,8 @@ module _ (d : ℕ) (Fd F Gd G : ℕ → ℕ) (w : ℕ) (hF : Finer d Fd F) (hG :
       ap pred (sym (top .attained) ∙ ⊕-some (Fd p) (Gd (y + (d * w - p))) nF nG) in
       let m = term p (p / d) (d - p % d) (p % d) y X A R (omega arith) (omega arith) (sym (div-add-mod p d)) (top .within) eA hA ey nF nG in
       rw e m
+
+-- ---- along the walk
 
 -- the walk in d-ths
 abbrev pub fine : ℕ → Walk → (ℕ → ℕ → ℕ) → Walk

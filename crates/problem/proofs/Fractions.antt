@@ -19,7 +19,7 @@ use Rattle.problem.proofs.Prices.{cellOf, Priced}
 use Rattle.problem.proofs.Spans.{limit, priced-limit}
 use Rattle.problem.proofs.Steps.{Hop, atPos}
 use Rattle.problem.proofs.Places.{fromPos}
-use Rattle.problem.proofs.Arrange.{stops, parent, member}
+use Rattle.problem.proofs.Arrange.{parent, member}
 use Rattle.problem.proofs.Cleared.{upOf, downOf, topOf, form, best, choices, flowsOf, clear-none, clear-some}
 use Rattle.problem.proofs.Wholes.{possible-in}
 use Rattle.problem.proofs.Alike.{tree-alike, stops-alike, up-times, down-times, top-times}

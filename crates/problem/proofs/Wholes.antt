@@ -23,7 +23,8 @@ ones-link l = ap (λ (c : ℕ). record { a = l .a; b = l .b; capacity = c }) (on
 ones-terms : (t : Terms) → termsIn 1 t ≡ t
 unfolding termsIn
 ones-terms (Terms.point units price) = ap₂ Terms.point (one-times units) (one-times price)
-ones-terms (Terms.span low high slope base) = rw (one-times low, one-times high, one-times base) refl
+ones-terms (Terms.span low high slope base) =
+    ap₂ (λ (l h : ℤ). Terms.span l h slope (pos 1 *ℤ base)) (one-times low) (one-times high) ∙ ap (Terms.span low high slope) (one-times base)
 
 ones-offer : (o : Offer) → offerIn 1 o ≡ o
 ones-offer o = ap (λ (t : Terms). record { member = o .member; terms = t }) (ones-terms (o .terms))
