@@ -9,13 +9,19 @@ const MOST_TRIED: i64 = 3000;
 /// A market of at most six members on a tree, with few units and few prices, so that many
 /// allocations have the same total. A table may have several entries for the same units.
 pub fn random_sheet(random: &mut Random) -> Sheet {
-    random_market(0, random)
+    random_market(1, 0, random)
 }
 
 /// Such a market with spans, beside the points of a member or in their place.
 pub fn random_sheet_with_spans(random: &mut Random) -> Sheet {
     let most_spans = random.pick(&[1, 2, 6]);
-    random_market(most_spans, random)
+    random_market(1, most_spans, random)
+}
+
+/// Such a market, with spans or without, of which the search can try every flow in `d`-ths of a unit.
+pub fn random_sheet_for_parts(d: i64, random: &mut Random) -> Sheet {
+    let most_spans = random.pick(&[0, 1, 2, 6]);
+    random_market(d, most_spans, random)
 }
 
 /// A market of points alone, or one with spans.
@@ -26,16 +32,16 @@ pub fn any_sheet(random: &mut Random) -> Sheet {
     }
 }
 
-fn random_market(most_spans: usize, random: &mut Random) -> Sheet {
+fn random_market(d: i64, most_spans: usize, random: &mut Random) -> Sheet {
     let n = 1 + random.below(6);
     let mut members: Vec<usize> = (1..=n).collect();
     random.shuffle(&mut members);
     let mut links = Vec::new();
     let mut tried = 1;
     for i in 1..n {
-        let most = (MOST_TRIED / tried - 1) / 2;
+        let most = (MOST_TRIED / tried - 1) / (2 * d);
         let capacity = random.between(0, most.min(3));
-        tried *= 2 * capacity + 1;
+        tried *= 2 * d * capacity + 1;
         let earlier = members[random.below(i)];
         links.push(Link::between(members[i], earlier, capacity));
     }
@@ -119,31 +125,39 @@ struct Found {
 fn search(sheet: &Sheet) -> Option<Found> {
     let walk = sheet.walk();
     let mut found: Option<Found> = None;
+    each_possible(sheet, |flows, total| {
+        let list = upward(&walk, flows);
+        match &mut found {
+            Some(best) if total < best.total => {}
+            Some(best) if total == best.total => {
+                best.equals += 1;
+                if list < best.list {
+                    best.list = list;
+                    best.flows = flows.to_vec();
+                }
+            }
+            _ => {
+                found = Some(Found {
+                    total,
+                    equals: 1,
+                    list,
+                    flows: flows.to_vec(),
+                });
+            }
+        }
+    });
+    found
+}
+
+/// Tries every flow on every link, and hands over each possible allocation with its total.
+pub fn each_possible(sheet: &Sheet, mut take: impl FnMut(&[i64], i64)) {
     let mut flows: Vec<i64> = sheet.links.iter().map(|link| -link.capacity).collect();
     loop {
         if let Some(total) = total(sheet, &flows) {
-            let list = upward(&walk, &flows);
-            match &mut found {
-                Some(best) if total < best.total => {}
-                Some(best) if total == best.total => {
-                    best.equals += 1;
-                    if list < best.list {
-                        best.list = list;
-                        best.flows = flows.clone();
-                    }
-                }
-                _ => {
-                    found = Some(Found {
-                        total,
-                        equals: 1,
-                        list,
-                        flows: flows.clone(),
-                    });
-                }
-            }
+            take(&flows, total);
         }
         let Some(next) = (0..flows.len()).find(|&i| flows[i] < sheet.links[i].capacity) else {
-            return found;
+            return;
         };
         flows[next] += 1;
         for (flow, link) in flows.iter_mut().zip(&sheet.links).take(next) {

@@ -7,6 +7,7 @@ mod display;
 mod dynamic;
 mod examples;
 mod files;
+mod fractions;
 mod large;
 mod listed;
 mod package;

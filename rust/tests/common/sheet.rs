@@ -100,6 +100,24 @@ impl Sheet {
         }
     }
 
+    /// The market in `d`-ths of a unit, every number but a slope told `d` times.
+    pub fn in_parts(&self, d: i64) -> Sheet {
+        let mut parts = self.clone();
+        for link in &mut parts.links {
+            link.capacity *= d;
+        }
+        for offer in &mut parts.offers {
+            offer.units *= d;
+            offer.price *= d;
+        }
+        for span in &mut parts.spans {
+            span.low *= d;
+            span.high *= d;
+            span.base *= d;
+        }
+        parts
+    }
+
     /// The file's records, each span's two together: links, points, spans.
     pub fn pieces(&self) -> Vec<Vec<[u8; 8]>> {
         let links = self.links.iter().map(|link| vec![link.record()]);
