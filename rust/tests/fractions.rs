@@ -25,38 +25,44 @@ fn cleared_total(sheet: &Sheet, random: &mut Random) -> Option<i64> {
     }
 }
 
-/// The highest total of a market by trying every flow.
-fn highest(sheet: &Sheet) -> Option<i64> {
-    let mut best = None;
-    each_possible(sheet, |_, total| best = best.max(Some(total)));
-    best
+/// The highest totals of a market in `d`-ths: of all allocations that are possible, and of those with
+/// a flow that is not a whole number of units.
+struct Highest {
+    of_all: Option<i64>,
+    in_parts: Option<i64>,
+}
+
+/// Tries every flow of a market in `d`-ths.
+fn highest(parts: &Sheet, d: i64) -> Highest {
+    let mut of_all = None;
+    let mut in_parts = None;
+    each_possible(parts, |flows, total| {
+        of_all = of_all.max(Some(total));
+        if flows.iter().any(|flow| flow % d != 0) {
+            in_parts = in_parts.max(Some(total));
+        }
+    });
+    Highest { of_all, in_parts }
 }
 
 #[test]
 fn fractions_of_small_markets_pay_no_more() {
     for d in PARTS {
         let mut impossible = 0;
-        let mut broken = 0;
+        let mut in_parts = 0;
         let mut as_good = 0;
         let count = cases("CLEARING_SMALL", 8000, |random| {
             let sheet = random_sheet_for_parts(d, random);
             let whole = cleared_total(&sheet, random).map(|total| d * total);
-            let mut best = None;
-            let mut best_broken = None;
-            each_possible(&sheet.in_parts(d), |flows, total| {
-                best = best.max(Some(total));
-                if flows.iter().any(|flow| flow % d != 0) {
-                    best_broken = best_broken.max(Some(total));
-                }
-            });
-            assert_eq!(best, whole, "in parts of 1/{d}: {sheet:?}");
+            let found = highest(&sheet.in_parts(d), d);
+            assert_eq!(found.of_all, whole, "in parts of 1/{d}: {sheet:?}");
             impossible += u64::from(whole.is_none());
-            broken += u64::from(best_broken.is_some());
-            as_good += u64::from(best_broken.is_some() && best_broken == whole);
+            in_parts += u64::from(found.in_parts.is_some());
+            as_good += u64::from(found.in_parts.is_some() && found.in_parts == whole);
         });
         for (seen, what) in [
             (impossible, "without an allocation"),
-            (broken, "with an allocation in parts of a unit"),
+            (in_parts, "with an allocation in parts of a unit"),
             (as_good, "with one that pays as much as the answer"),
         ] {
             assert!(seen >= count / 50, "{seen} of {count} markets {what}");
@@ -66,24 +72,26 @@ fn fractions_of_small_markets_pay_no_more() {
 
 #[test]
 fn fractions_of_the_largest_markets_pay_no_more() {
-    cases("CLEARING_LARGE", 4, |random| {
-        for shape in [Shape::Star, Shape::Chain, Shape::Tree] {
-            let sheet = large::random_sheet(Tables::Both, shape, random);
-            let whole = cleared_total(&sheet, random);
-            for d in PARTS {
-                let best = best_total(&sheet.in_parts(d));
-                assert_eq!(best, whole.map(|total| d * total), "in parts of 1/{d}");
-            }
+    let mut possible = 0;
+    let count = cases("CLEARING_LARGE", 6, |random| {
+        let shape = random.pick(&[Shape::Star, Shape::Chain, Shape::Tree]);
+        let sheet = large::random_sheet(Tables::Both, shape, random);
+        let whole = cleared_total(&sheet, random);
+        possible += u64::from(whole.is_some());
+        for d in PARTS {
+            let best = best_total(&sheet.in_parts(d));
+            assert_eq!(best, whole.map(|total| d * total), "in parts of 1/{d}");
         }
     });
+    assert!(possible >= count / 2, "{possible} of {count} are possible");
 }
 
-/// Member 1 sells and member 2 buys over a link of such a capacity.
-fn sale(capacity: i64, offers: Vec<Offer>, spans: Vec<Span>) -> Sheet {
+/// Member 1 sells and member 2 buys, by spans, over a link of such a capacity.
+fn sale(capacity: i64, spans: [Span; 2]) -> Sheet {
     let links = vec![Link::between(1, 2, capacity)];
     Sheet {
-        spans,
-        ..Sheet::new(2, links, offers)
+        spans: spans.to_vec(),
+        ..Sheet::new(2, links, Vec::new())
     }
 }
 
@@ -98,16 +106,15 @@ fn span(member: usize, low: i64, high: i64, slope: i64, base: i64) -> Span {
     }
 }
 
-/// Fails unless the best in `d`-ths, read as it should be, is what the answer pays, and read wrongly
-/// is more.
-fn check_wrong(sheet: &Sheet, misread: impl Fn(i64, &mut Sheet)) {
-    let whole = cleared_total(sheet, &mut Random::new(1));
+/// Fails unless the best in parts of a unit pays what the answer pays, and more once they are misread.
+fn check_misread(sheet: &Sheet, misread: impl Fn(i64, &mut Sheet)) {
+    let whole = cleared_total(sheet, &mut Random::new(1)).expect("an answer");
     for d in PARTS {
         let mut parts = sheet.in_parts(d);
-        let expected = whole.map(|total| d * total);
-        assert_eq!(highest(&parts), expected, "in parts of 1/{d}");
+        let best = |parts| highest(parts, d).of_all.expect("an allocation");
+        assert_eq!(best(&parts), d * whole, "in parts of 1/{d}");
         misread(d, &mut parts);
-        assert!(highest(&parts) > expected, "in parts of 1/{d}: {parts:?}");
+        assert!(best(&parts) > d * whole, "in parts of 1/{d}: {parts:?}");
     }
 }
 
@@ -118,46 +125,39 @@ fn points_that_hold_between_points_would_pay_more() {
         units,
         price,
     };
-    let sheet = sale(3, vec![offer(1, -2, 0), offer(2, 1, 10)], Vec::new());
-    check_wrong(&sheet, |d, parts| {
-        let held = |point: Offer| span(point.member, point.units, point.units + d, 0, point.price);
+    let sells = [offer(1, 0, 0), offer(1, -2, 0)];
+    let buys = [offer(2, 0, 0), offer(2, 1, 10)];
+    let sheet = Sheet::new(2, vec![Link::between(1, 2, 3)], [sells, buys].concat());
+    check_misread(&sheet, |d, parts| {
+        let held = |point: Offer| {
+            let last = point.units + d - 1;
+            span(point.member, point.units, last, 0, point.price)
+        };
         parts.spans = parts.offers.drain(..).map(held).collect();
     });
 }
 
 #[test]
 fn a_capacity_of_one_part_more_would_pay_more() {
-    let sheet = sale(
-        1,
-        Vec::new(),
-        vec![span(1, -3, 0, 0, 0), span(2, 0, 3, 10, 0)],
-    );
-    check_wrong(&sheet, |_, parts| parts.links[0].capacity += 1);
+    let sheet = sale(1, [span(1, -3, 0, 0, 0), span(2, 0, 3, 10, 0)]);
+    check_misread(&sheet, |_, parts| parts.links[0].capacity += 1);
 }
 
 #[test]
 fn ends_rounded_outward_would_pay_more() {
-    let sheet = sale(
-        3,
-        Vec::new(),
-        vec![span(1, -1, 0, 0, 0), span(2, 0, 1, 10, 0)],
-    );
-    check_wrong(&sheet, |_, parts| {
+    let sheet = sale(3, [span(1, -1, 0, 0, 0), span(2, 0, 1, 10, 0)]);
+    check_misread(&sheet, |d, parts| {
         for span in &mut parts.spans {
-            span.low -= 1;
-            span.high += 1;
+            span.low -= d - 1;
+            span.high += d - 1;
         }
     });
 }
 
 #[test]
-fn a_base_told_once_would_pay_more() {
-    let sheet = sale(
-        1,
-        Vec::new(),
-        vec![span(1, -1, 0, 0, 0), span(2, 0, 1, 10, -4)],
-    );
-    check_wrong(&sheet, |d, parts| {
+fn a_base_that_is_kept_would_pay_more() {
+    let sheet = sale(1, [span(1, -1, 0, 0, 0), span(2, 0, 1, 10, -4)]);
+    check_misread(&sheet, |d, parts| {
         for span in &mut parts.spans {
             span.base /= d;
         }

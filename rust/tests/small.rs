@@ -32,6 +32,7 @@ pub fn any_sheet(random: &mut Random) -> Sheet {
     }
 }
 
+/// A market with few enough flows in `d`-ths of a unit to try them all.
 fn random_market(d: i64, most_spans: usize, random: &mut Random) -> Sheet {
     let n = 1 + random.below(6);
     let mut members: Vec<usize> = (1..=n).collect();

@@ -1,4 +1,5 @@
--- Refusal 8 is never given: whatever the file and the answer area, no number that is returned is its code. Assumes nothing.
+-- A refusal of a file or an answer area is one that the table allows them; and refusal 8 is never given: whatever the file and the area,
+-- no number that is returned is its code. Assumes nothing.
 use mathlib.Core.Path.{_≡_, refl}
 use mathlib.Core.List.{List}
 use Prim.Native.Nat.{ℕ, _<_}

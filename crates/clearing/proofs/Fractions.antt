@@ -28,14 +28,14 @@ unfolding code
 cleared-no-more {file} {before} (refused r e) l = absurd (unlisted 0 refl (refused-allowed file (length before) r e) (omega (arith, l)))
 cleared-no-more (settled e (nothing h)) l = absurd (omega (arith, l))
 cleared-no-more {file} {before} (settled e (cleared ys t h)) l =
-    (ys, t, refl, λ d some. fractions-highest (marketOf file) (tree-if file (length before) e) d some ys t h)
+    (ys, t, refl, λ d from-1. fractions-highest (marketOf file) (tree-if file (length before) e) d from-1 ys t h)
 
 -- Of a file that gets refusal 12: no allocation in d-ths is possible either.
 pub refused-impossible : {file before after : List ℕ} {k : ℕ} → Result file before k after → k ≡ code noAllocation
     → (d : ℕ) → 1 ≤ d → ImpossibleIn d (marketOf file)
 unfolding code
-refused-impossible {file} {before} (refused r e) q d some =
+refused-impossible {file} {before} (refused r e) q d from-1 =
     let t = refused-allowed file (length before) r e in
     absurd (unlisted 12 refl t (omega (arith, t .place, q)))
-refused-impossible {file} {before} (settled e (nothing h)) q d some = fractions-impossible (marketOf file) (tree-if file (length before) e) d some h
-refused-impossible {file} (settled e (cleared ys t h)) q d some = absurd (omega (arith, market-few file, q))
+refused-impossible {file} {before} (settled e (nothing h)) q d from-1 = fractions-impossible (marketOf file) (tree-if file (length before) e) d from-1 h
+refused-impossible {file} (settled e (cleared ys t h)) q d from-1 = absurd (omega (arith, market-few file, q))

@@ -24,7 +24,7 @@ file-passes : (file : List ℕ) (room : ℕ) → refusalOf file room ≡ none �
 unfolding refusalOf
 file-passes file room e = both-none (fileRefusal file) _ e .0
 
--- the market of a file that is not refused is on a tree
+-- the market of a file that passes refusals 1 to 11, 13 and 14 is on a tree
 pub tree-if : (file : List ℕ) (room : ℕ) → refusalOf file room ≡ none → Tree (marketOf file)
 tree-if file room e = sound-tree file (file-passes file room e)
 

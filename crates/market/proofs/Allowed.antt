@@ -1,4 +1,4 @@
--- A refusal of a file is one that the table allows: its number is listed, and its place has 16 bits. Assumes nothing.
+-- A refusal of a file is one that the table allows: its number is one that a file gets, and its place has 16 bits. Assumes nothing.
 use mathlib.Core.Path.{refl}
 use mathlib.Core.Bool.{Bool, true, false}
 use mathlib.Core.List.{List, [], _∷_}

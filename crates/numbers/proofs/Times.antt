@@ -65,6 +65,12 @@ pub abs-parts : (z : ℤ) → natAbs z ≡ up z + dn z
 abs-parts (pos n) = omega arith
 abs-parts (negsuc n) = omega arith
 
+pub abs-between : (c : ℕ) (z : ℤ) → natAbs z ≤ c → (negℤ (pos c) ≤ℤ z) × (z ≤ℤ pos c)
+abs-between c z h = (
+  le-from (negℤ (pos c)) z (omega (arith, abs-parts z, up-neg (pos c), dn-neg (pos c))),
+  le-from z (pos c) (omega (arith, abs-parts z)),
+)
+
 abs-fits : {w : Width} {z : ℤ} → SFits w z → natAbs z ≤ 2 ^ hbits w
 abs-fits {z = z} f = natAbs-le z (f .sfits)
 

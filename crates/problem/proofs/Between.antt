@@ -23,7 +23,7 @@ use Rattle.problem.proofs.Choices.{apart}
 use Rattle.problem.proofs.Wholes.{line-times}
 use Rattle.problem.proofs.Finer.{Mixed, Finer, scale-le}
 
--- ---- prices in d-ths are none below d times the limit
+-- ---- the limit of a table in d-ths
 
 module _ (d : ℕ) where
   limit-of : (t : Terms) → limitOf (termsIn d t) ≡ d * limitOf t
@@ -50,23 +50,24 @@ abbrev Less : ℕ → ℤ → ℤ → ℕ → Type 0
 Less d z X r = up z + (r + d * dn X) ≡ dn z + d * up X
 
 -- X1 is one unit less than X
-abbrev Under : ℤ → ℤ → Type 0
-Under X1 X = up X1 + suc (dn X) ≡ dn X1 + up X
+abbrev OneLess : ℤ → ℤ → Type 0
+OneLess X1 X = up X1 + suc (dn X) ≡ dn X1 + up X
 
 -- the worth p in d-ths is a times the worth at X and r times that at X1, both being there where they count
-record Mixes (t : Terms) (X X1 : ℤ) (a r : ℕ) (p : ℤ) : Type 0 where
+record Split (t : Terms) (X X1 : ℤ) (a r : ℕ) (p : ℤ) : Type 0 where
   pub near : ℤ
   pub far : ℤ
   pub at-near : worth t X ≡ some near
   pub at-far : r ≢ 0 → worth t X1 ≡ some far
-  pub mixes : p ≡ (pos a *ℤ near) +ℤ (pos r *ℤ far)
+  pub splits : p ≡ (pos a *ℤ near) +ℤ (pos r *ℤ far)
 
-four : (u v w x : ℤ) → (u +ℤ v) +ℤ (w +ℤ x) ≡ (u +ℤ w) +ℤ (v +ℤ x)
-four u v w x =
+-- two sums added the other way round
+sums-swap : (u v w x : ℤ) → (u +ℤ v) +ℤ (w +ℤ x) ≡ (u +ℤ w) +ℤ (v +ℤ x)
+sums-swap u v w x =
     equal ((u +ℤ v) +ℤ (w +ℤ x)) ((u +ℤ w) +ℤ (v +ℤ x))
     (omega (arith, added (u +ℤ v) (w +ℤ x), added u v, added w x, added (u +ℤ w) (v +ℤ x), added u w, added v x))
 
-module _ (d a r : ℕ) (e : a + r ≡ d) (ha : 1 ≤ a) (z X X1 : ℤ) (less : Less d z X r) (under : Under X1 X) where
+module _ (d a r : ℕ) (e : a + r ≡ d) (ha : 1 ≤ a) (z X X1 : ℤ) (less : Less d z X r) (under : OneLess X1 X) where
   -- whole units in order, where their d-ths are but for less than a unit
   units-le : (x y k : ℕ) → k < d → d * x ≤ d * y + k → x ≤ y
   units-le x y k h l = le-of-suc-le-suc (lt-of-mul-lt-mul-left d (omega (arith, mul-suc d y)))
@@ -95,8 +96,8 @@ module _ (d a r : ℕ) (e : a + r ≡ d) (ha : 1 ≤ a) (z X X1 : ℤ) (less : L
   far-high h l = le-trans (le-from X1 X (omega (arith, under))) (near-high h l)
 
   -- z, and the price on a span's line there, are a times what they are at X and r times what they are at X1
-  z-mixes : z ≡ (pos a *ℤ X) +ℤ (pos r *ℤ X1)
-  z-mixes =
+  z-splits : z ≡ (pos a *ℤ X) +ℤ (pos r *ℤ X1)
+  z-splits =
       equal z ((pos a *ℤ X) +ℤ (pos r *ℤ X1))
       (omega (
         arith,
@@ -116,22 +117,22 @@ module _ (d a r : ℕ) (e : a + r ≡ d) (ha : 1 ≤ a) (z X X1 : ℤ) (less : L
         mul-add r (dn X1) (up X),
       ))
 
-  d-mixes : (b : ℤ) → pos d *ℤ b ≡ (pos a *ℤ b) +ℤ (pos r *ℤ b)
-  d-mixes b = ap (λ (k : ℕ). pos k *ℤ b) (sym e) ∙ plus-times (pos a) (pos r) b
+  d-splits : (b : ℤ) → pos d *ℤ b ≡ (pos a *ℤ b) +ℤ (pos r *ℤ b)
+  d-splits b = ap (λ (k : ℕ). pos k *ℤ b) (sym e) ∙ plus-times (pos a) (pos r) b
 
-  line-mixes : (s b : ℤ) → (s *ℤ z) +ℤ (pos d *ℤ b) ≡ (pos a *ℤ ((s *ℤ X) +ℤ b)) +ℤ (pos r *ℤ ((s *ℤ X1) +ℤ b))
-  line-mixes s b =
+  line-splits : (s b : ℤ) → (s *ℤ z) +ℤ (pos d *ℤ b) ≡ (pos a *ℤ ((s *ℤ X) +ℤ b)) +ℤ (pos r *ℤ ((s *ℤ X1) +ℤ b))
+  line-splits s b =
       ap₂ _+ℤ_
-      (ap (λ (y : ℤ). s *ℤ y) z-mixes ∙ times-plus s (pos a *ℤ X) (pos r *ℤ X1) ∙ ap₂ _+ℤ_ (times-swap s a X) (times-swap s r X1))
-      (d-mixes b)
-      ∙ four (pos a *ℤ (s *ℤ X)) (pos r *ℤ (s *ℤ X1)) (pos a *ℤ b) (pos r *ℤ b)
+      (ap (λ (y : ℤ). s *ℤ y) z-splits ∙ times-plus s (pos a *ℤ X) (pos r *ℤ X1) ∙ ap₂ _+ℤ_ (times-swap s a X) (times-swap s r X1))
+      (d-splits b)
+      ∙ sums-swap (pos a *ℤ (s *ℤ X)) (pos r *ℤ (s *ℤ X1)) (pos a *ℤ b) (pos r *ℤ b)
       ∙ sym (ap₂ _+ℤ_ (times-plus (pos a) (s *ℤ X) b) (times-plus (pos r) (s *ℤ X1) b))
 
-  between : (t : Terms) (p : ℤ) → worth (termsIn d t) z ≡ some p → Mixes t X X1 a r p
+  between : (t : Terms) (p : ℤ) → worth (termsIn d t) z ≡ some p → Split t X X1 a r p
   unfolding worth termsIn
   between (Terms.point units price) p = go (eqZ z (pos d *ℤ units)) refl
     where
-      go : (b : Bool) → eqZ z (pos d *ℤ units) ≡ b → cond b (some (pos d *ℤ price)) none ≡ some p → Mixes (Terms.point units price) X X1 a r p
+      go : (b : Bool) → eqZ z (pos d *ℤ units) ≡ b → cond b (some (pos d *ℤ price)) none ≡ some p → Split (Terms.point units price) X X1 a r p
       go false t q = absurd (no-price q)
       go true t q =
           let s : z ≡ pos d *ℤ units = eqZ-true z (pos d *ℤ units) t in
@@ -143,12 +144,12 @@ module _ (d a r : ℕ) (e : a + r ≡ d) (ha : 1 ≤ a) (z X X1 : ℤ) (less : L
             far = price;
             at-near = ap (λ (b : Bool). cond b (some price) none) (eqZ-same X units x);
             at-far = λ n. absurd (omega (arith, le-to (far-low units lo n), le-to (near-high units hi), under));
-            mixes = sym (some-same q) ∙ d-mixes price;
+            splits = sym (some-same q) ∙ d-splits price;
           }
   between (Terms.span low high slope base) p = go (within (pos d *ℤ low) (pos d *ℤ high) z) refl
     where
       go : (b : Bool) → within (pos d *ℤ low) (pos d *ℤ high) z ≡ b → cond b (some ((slope *ℤ z) +ℤ (pos d *ℤ base))) none ≡ some p
-          → Mixes (Terms.span low high slope base) X X1 a r p
+          → Split (Terms.span low high slope base) X X1 a r p
       go false t q = absurd (no-price q)
       go true t q =
           let i = within-true (pos d *ℤ low) (pos d *ℤ high) z t in
@@ -157,7 +158,7 @@ module _ (d a r : ℕ) (e : a + r ≡ d) (ha : 1 ≤ a) (z X X1 : ℤ) (less : L
             far = (slope *ℤ X1) +ℤ base;
             at-near = ap (λ (b : Bool). cond b (some ((slope *ℤ X) +ℤ base)) none) (true-within low high X (near-low low (i .0)) (near-high high (i .1)));
             at-far = λ n. ap (λ (b : Bool). cond b (some ((slope *ℤ X1) +ℤ base)) none) (true-within low high X1 (far-low low (i .0) n) (far-high high (i .1)));
-            mixes = sym (some-same q) ∙ line-mixes slope base;
+            splits = sym (some-same q) ∙ line-splits slope base;
           }
 
 -- ---- a table's cell
@@ -207,7 +208,7 @@ mix-cell B a r q s =
 
 -- the cell of an offer's worth in d-ths is under the line between the table's cells at X and X1
 offer-mixed : (B d a r : ℕ) → a + r ≡ d → (os : List Offer) (j : ℕ) (o : Offer) → List·Memᴰ o os → j ≡ o .member → (W t : ℕ) (p : ℤ)
-    → Mixes (o .terms) (pos W -ℤ pos t) (pos W -ℤ pos (suc t)) a r p → Mixed (λ x. cellOf B (value os j (pos W -ℤ pos x))) t a r (up (p +ℤ pos (d * B)))
+    → Split (o .terms) (pos W -ℤ pos t) (pos W -ℤ pos (suc t)) a r p → Mixed (λ x. cellOf B (value os j (pos W -ℤ pos x))) t a r (up (p +ℤ pos (d * B)))
 offer-mixed B d a r e os j o mem by W t p b =
     let X = pos W -ℤ pos t in
     let X1 = pos W -ℤ pos (suc t) in
@@ -218,7 +219,7 @@ offer-mixed B d a r e os j o mem by W t p b =
       low = c0 .0;
       high = λ n. c1 n .0;
       under =
-          rw (b .mixes, ← e)
+          rw (b .splits, ← e)
           (omega (
             arith,
             mix-cell B a r (b .near) (b .far),
@@ -244,7 +245,7 @@ cell-finer B d os j W y t a r e ha ey n = go (value (map (offerIn d) os) j z) re
         let e : up X + t ≡ dn X + W = omega (arith, taken (pos W) (pos t)) in
         omega (arith, taken (pos (d * W)) (pos y), ey, ap (λ (k : ℕ). d * k) e, mul-add d (up X) t, mul-add d (dn X) W)
 
-    under : Under (pos W -ℤ pos (suc t)) X
+    under : OneLess (pos W -ℤ pos (suc t)) X
     under = omega (arith, taken (pos W) (pos t), taken (pos W) (pos (suc t)))
 
     go : (v : Option ℤ) → value (map (offerIn d) os) j z ≡ v → cellOf (d * B) v ≢ 0 → Mixed (λ x. cellOf B (value os j (pos W -ℤ pos x))) t a r (pred (cellOf (d * B) v))

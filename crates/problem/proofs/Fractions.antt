@@ -26,50 +26,50 @@ use Rattle.problem.proofs.Alike.{tree-alike, stops-alike, up-times, dow
 use Rattle.problem.proofs.Finer.{fine, run-no-more}
 use Rattle.problem.proofs.Between.{priced-in, cell-finer}
 
-module _ (m : Market) (R : Tree m) (d : ℕ) (some-part : 1 ≤ d) where
-  -- prices are held with B added, in d-ths with d times B: any number that no price goes below
+module _ (m : Market) (R : Tree m) (d : ℕ) (from-1 : 1 ≤ d) where
+  -- no price is below -B, and none in d-ths below -dB
   abbrev B : ℕ
   B = limit (m .offers)
 
   P : Priced B (m .offers)
   P = priced-limit (m .offers)
 
-  abbrev parts : Market
-  parts = marketIn d m
+  abbrev dths : Market
+  dths = marketIn d m
 
   -- ---- in walk form the market in d-ths is the whole-unit one, made finer
 
   abbrev row : ℕ → ℕ → ℕ
   row j x = cellOf (d * B) (value (map (offerIn d) (m .offers)) (member m j) (pos (d * topOf m j) -ℤ pos x))
 
-  made : (ℕ → ℕ) → (ℕ → ℕ) → (ℕ → ℕ → ℕ) → Walk
-  made p w r = record { par = p; wide = w; gain = λ i q. 1; row = r }
+  shaped : (ℕ → ℕ) → (ℕ → ℕ) → (ℕ → ℕ → ℕ) → Walk
+  shaped p w r = record { par = p; wide = w; gain = λ i q. 1; row = r }
 
-  form-fine : form (d * B) parts ≡ fine d (form B m) row
-  unfolding made
+  form-fine : form (d * B) dths ≡ fine d (form B m) row
+  unfolding shaped
   form-fine =
-      ap₂ (λ (s : List Hop) (t : ℕ → ℕ). made (fromPos s) (λ i. upOf parts i + downOf parts i) (λ j x. cellOf (d * B) (value (parts .offers) (atPos s j) (pos (t j) -ℤ pos x))))
+      ap₂ (λ (s : List Hop) (t : ℕ → ℕ). shaped (fromPos s) (λ i. upOf dths i + downOf dths i) (λ j x. cellOf (d * B) (value (dths .offers) (atPos s j) (pos (t j) -ℤ pos x))))
       (stops-alike d m) (fun-ext (top-times d m))
-      ∙ ap (λ (w : ℕ → ℕ). made (parent m) w row)
+      ∙ ap (λ (w : ℕ → ℕ). shaped (parent m) w row)
       (fun-ext (λ i. ap₂ _+_ (up-times d m i) (down-times d m i) ∙ sym (mul-add d (upOf m i) (downOf m i))))
 
-  best-no-more : best (d * B) parts ≢ 0 → (best B m ≢ 0) × (pred (best (d * B) parts) ≤ d * pred (best B m))
+  best-no-more : best (d * B) dths ≢ 0 → (best B m ≢ 0) × (pred (best (d * B) dths) ≤ d * pred (best B m))
   best-no-more =
       subst (λ (v : ℕ). v ≢ 0 → (best B m ≢ 0) × (pred v ≤ d * pred (best B m)))
       (sym (ap₂ (λ (k : Walk) (E : ℕ). run k E 1 0 0) form-fine (length-map (m .links) (linkIn d))))
-      (run-no-more d (form B m) row (λ i p. refl) (λ j. cell-finer B d (m .offers) (member m j) (topOf m j)) some-part (length (m .links)))
+      (run-no-more d (form B m) row (λ i p. refl) (λ j. cell-finer B d (m .offers) (member m j) (topOf m j)) from-1 (length (m .links)))
 
   -- ---- the theorem
 
   module _ (zs : List ℤ) (u : ℤ) (p : PossibleIn d m zs u) where
-    there : best (d * B) parts ≢ 0
-    there z = clear-none (d * B) parts (tree-alike d m R) (priced-in d (m .offers)) z zs u p
+    there : best (d * B) dths ≢ 0
+    there z = clear-none (d * B) dths (tree-alike d m R) (priced-in d (m .offers)) z zs u p
 
     found : Best m (flowsOf m (choices B m)) (pos (pred (best B m)) -ℤ pos (m .members * B))
     found = clear-some B m R P (pred (best B m)) (omega (arith, best-no-more there .0))
 
-    under : u ≤ℤ (pos (pred (best (d * B) parts)) -ℤ pos (m .members * (d * B)))
-    under = clear-some (d * B) parts (tree-alike d m R) (priced-in d (m .offers)) (pred (best (d * B) parts)) (omega (arith, there)) .highest zs u p
+    under : u ≤ℤ (pos (pred (best (d * B) dths)) -ℤ pos (m .members * (d * B)))
+    under = clear-some (d * B) dths (tree-alike d m R) (priced-in d (m .offers)) (pred (best (d * B) dths)) (omega (arith, there)) .highest zs u p
 
   -- Where no whole-unit allocation exists, no fractional one does.
   pub fractions-impossible : Impossible m → ImpossibleIn d m
@@ -85,7 +85,7 @@ module _ (m : Market) (R : Tree m) (d : ℕ) (some-part : 1 ≤ d) where
       (omega (
         arith,
         le-to (under zs u p),
-        taken (pos (pred (best (d * B) parts))) (pos (m .members * (d * B))),
+        taken (pos (pred (best (d * B) dths))) (pos (m .members * (d * B))),
         best-no-more (there zs u p) .1,
         times-up d t,
         times-dn d t,
@@ -95,6 +95,6 @@ module _ (m : Market) (R : Tree m) (d : ℕ) (some-part : 1 ≤ d) where
         mul-left-comm (m .members) d B,
       ))
 
-  -- So the best in d-ths is the whole-unit answer, told in d-ths.
+  -- So the best in d-ths is the whole-unit answer, as d-ths.
   pub fractions-highest : (ys : List ℤ) (t : ℤ) → Best m ys t → HighestIn d m (flowsIn d ys) (pos d *ℤ t)
-  fractions-highest ys t b = record { possible = possible-in d some-part m ys t (b .possible); highest = fractions-no-more ys t b }
+  fractions-highest ys t b = record { possible = possible-in d from-1 m ys t (b .possible); highest = fractions-no-more ys t b }

@@ -1,5 +1,5 @@
 -- A price inside a span lies between its ends' prices, so that a table whose points and ends are in range is in range, and every
--- table has a limit that no price is below. Assumes nothing.
+-- table has a limit: a number B, no price being below -B. Assumes nothing.
 use mathlib.Core.Path.{_≡_, refl}
 use mathlib.Core.Bool.{Bool, true, false, cond}
 use mathlib.Core.List.{List, [], _∷_}
@@ -11,11 +11,10 @@ use lib.Signed.{_≤ℤ_}
 use Rattle.numbers.specs.Whole.{eqZ, within}
 use Rattle.numbers.proofs.Signs.{added, up-neg, dn-neg, le-to, le-from}
 use Rattle.numbers.proofs.Tests.{within-true}
-use Rattle.numbers.proofs.Times.{times-between}
+use Rattle.numbers.proofs.Times.{abs-between, times-between}
 use Rattle.problem.specs.Problem.{Terms, Offer, worth}
 use Rattle.problem.proofs.Prices.{Low, Limited, limited-low, Priced, worths-map}
 use Rattle.problem.proofs.Values.{le-trans}
-use Rattle.problem.proofs.Flows.{abs-range}
 
 plus-le : (u v b : ℤ) → u ≤ℤ v → (u +ℤ b) ≤ℤ (v +ℤ b)
 plus-le u v b h = le-from (u +ℤ b) (v +ℤ b) (omega (arith, le-to h, added u b, added v b))
@@ -55,17 +54,14 @@ unfoldable pub limit : List Offer → ℕ
 limit [] = 0
 limit (o ∷ os) = limitOf (o .terms) + limit os
 
-abs-limited : (B : ℕ) (p : ℤ) → natAbs p ≤ B → Limited B (some p)
-abs-limited B p h = let r = abs-range B p h in (r .low, r .high)
-
 terms-limited : (t : Terms) (x : ℤ) → Limited (limitOf t) (worth t x)
 unfolding limitOf
-terms-limited (Terms.point units price) x = point-limited (natAbs price) units price (abs-limited (natAbs price) price (omega arith)) x
+terms-limited (Terms.point units price) x = point-limited (natAbs price) units price (abs-between (natAbs price) price (omega arith)) x
 terms-limited (Terms.span low high slope base) x =
     let p = (slope *ℤ low) +ℤ base in
     let q = (slope *ℤ high) +ℤ base in
     let B = natAbs p + natAbs q in
-    span-limited B low high slope base (abs-limited B p (omega arith)) (abs-limited B q (omega arith)) x
+    span-limited B low high slope base (abs-between B p (omega arith)) (abs-between B q (omega arith)) x
 
 low-more : {B C : ℕ} → B ≤ C → (v : Option ℤ) → Low B v → Low C v
 low-more h none l = tt

@@ -72,7 +72,7 @@ module _ (d : ℕ) where
   range-times InRange.end = InRange.end
   range-times (InRange.flow {l = l} {y = y} h r) = InRange.flow {l = linkIn d l} {y = pos d *ℤ y} (rw (times-abs (pos d) y) (mul-le-mul-left d h)) (range-times r)
 
-  -- the price on a span's line for d times the units, its base told in d-ths
+  -- the price on a span's line in d-ths, for d times the units
   pub line-times : (slope x base : ℤ) → (slope *ℤ (pos d *ℤ x)) +ℤ (pos d *ℤ base) ≡ pos d *ℤ ((slope *ℤ x) +ℤ base)
   line-times slope x base = ap (λ (z : ℤ). z +ℤ (pos d *ℤ base)) (times-swap slope d x) ∙ sym (times-plus (pos d) (slope *ℤ x) base)
 
@@ -82,15 +82,15 @@ unfoldable times : ℕ → Option ℤ → Option ℤ
 times d none = none
 times d (some p) = some (pos d *ℤ p)
 
-module _ (d : ℕ) (some-part : 1 ≤ d) where
+module _ (d : ℕ) (from-1 : 1 ≤ d) where
   leZ-times : (x y : ℤ) → leZ (pos d *ℤ x) (pos d *ℤ y) ≡ leZ x y
-  leZ-times x y = leZ-agree (pos d *ℤ x) (pos d *ℤ y) x y (times-le-back d x y some-part) (times-le d)
+  leZ-times x y = leZ-agree (pos d *ℤ x) (pos d *ℤ y) x y (times-le-back d x y from-1) (times-le d)
 
   eqZ-times : (x y : ℤ) → eqZ (pos d *ℤ x) (pos d *ℤ y) ≡ eqZ x y
   eqZ-times x y =
       bool-cases (eqZ x y) (λ b. eqZ (pos d *ℤ x) (pos d *ℤ y) ≡ b)
       (λ e. eqZ-same (pos d *ℤ x) (pos d *ℤ y) (ap (λ (z : ℤ). pos d *ℤ z) (eqZ-true x y e)))
-      (λ e. eqZ-other (pos d *ℤ x) (pos d *ℤ y) (λ s. true-false (sym (eqZ-same x y (times-same d x y some-part s)) ∙ e)))
+      (λ e. eqZ-other (pos d *ℤ x) (pos d *ℤ y) (λ s. true-false (sym (eqZ-same x y (times-same d x y from-1 s)) ∙ e)))
 
   -- a price or none, by a test
   if-times : (b : Bool) (p : ℤ) → cond b (some (pos d *ℤ p)) none ≡ times d (cond b (some p) none)
@@ -127,11 +127,11 @@ module _ (d : ℕ) (some-part : 1 ≤ d) where
   value-times [] j x = refl
   value-times (o ∷ os) j x = ap₂ higher (offered-times o j x) (value-times os j x) ∙ higher-times (offered o j x) (value os j x)
 
-  plus-times : (u v : Option ℤ) → plus (times d u) (times d v) ≡ times d (plus u v)
+  sum-times : (u v : Option ℤ) → plus (times d u) (times d v) ≡ times d (plus u v)
   unfolding plus times
-  plus-times none v = refl
-  plus-times (some p) none = refl
-  plus-times (some p) (some q) = ap {B = Option ℤ} some (sym (times-plus (pos d) p q))
+  sum-times none v = refl
+  sum-times (some p) none = refl
+  sum-times (some p) (some q) = ap {B = Option ℤ} some (sym (times-plus (pos d) p q))
 
   total-times : (m : Market) (ys : List ℤ) (j : ℕ) → totalTo (marketIn d m) (flowsIn d ys) j ≡ times d (totalTo m ys j)
   unfolding totalTo times
@@ -139,7 +139,7 @@ module _ (d : ℕ) (some-part : 1 ≤ d) where
   total-times m ys (suc j) =
       ap₂ plus (total-times m ys j)
       (ap (value (map (offerIn d) (m .offers)) (suc j)) (net-times d (suc j) (m .links) ys) ∙ value-times (m .offers) (suc j) (net (suc j) (m .links) ys))
-      ∙ plus-times (totalTo m ys j) (value (m .offers) (suc j) (net (suc j) (m .links) ys))
+      ∙ sum-times (totalTo m ys j) (value (m .offers) (suc j) (net (suc j) (m .links) ys))
 
   -- A whole-unit allocation, each flow times d, is possible in d-ths with d times its total.
   pub possible-in : (m : Market) (ys : List ℤ) (t : ℤ) → Possible m ys t → PossibleIn d m (flowsIn d ys) (pos d *ℤ t)

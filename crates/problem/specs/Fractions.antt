@@ -1,6 +1,6 @@
--- docs/RULES.md, "In fractions of a unit": flows and nets counted in d-ths. Every number is told d times: capacities, units, prices,
--- flows, nets and totals. A slope is a price for each unit and stays. So a market in d-ths is a market again, and what is possible in
--- it is said already.
+-- docs/RULES.md, "In fractions of a unit": flows and nets are counted in d-ths, d being 1 or more, and capacities, units, prices and
+-- bases are multiplied by d. A slope is a price for each unit and stays. So a market in d-ths is a market again, and what is possible
+-- in it is said already.
 use mathlib.Core.List.{List, map}
 use Prim.Native.Nat.{ℕ, _*_}
 use lib.IntN.{ℤ, pos, _*ℤ_}
@@ -36,6 +36,6 @@ pub record HighestIn (d : ℕ) (m : Market) (ys : List ℤ) (t : ℤ) : Type 0 w
   pub possible : PossibleIn d m ys t
   pub highest : (zs : List ℤ) (u : ℤ) → PossibleIn d m zs u → u ≤ℤ t
 
--- flows in whole units, told in d-ths
+-- flows in whole units, as d-ths
 abbrev pub flowsIn : ℕ → List ℤ → List ℤ
 flowsIn d ys = map (λ y. pos d *ℤ y) ys

@@ -1,13 +1,13 @@
--- A refusal of a file or an area is one that the table allows: its number is listed for them, and its place has 16 bits, so that the
+-- A refusal of a file or an area is one that the table allows: its number is one of theirs, and its place has 16 bits, so that the
 -- number returned tells both. Here of refusals 1 to 4, 13 and 14, and of any that are tried one after the other. Assumes nothing.
 use mathlib.Core.Path.{_≡_, refl, sym, ap, _∙_, subst}
-use mathlib.Core.Bool.{Bool, true, false, not, _||_}
+use mathlib.Core.Bool.{Bool, true, false, _&&_, _||_}
 use mathlib.Core.List.{List, _∷_}
 use mathlib.Core.Logic.{inl, inr}
 use mathlib.Core.Option.{Option, none, some, Option·none-ne-some, Option·some-injective}
 use Prim.Native.Nat.{ℕ, zero, suc, _+_, _/_, _≤_, _<_}
 use native.Mathlib.Omega.{arith}
-use lib.Dec.{eqb}
+use lib.Dec.{eqb, ltb}
 use lib.ListN.{length}
 use Rattle.numbers.proofs.Tests.{true-false}
 use Rattle.records.specs.Records.{Entry, entryAt, entriesFrom, entries}
@@ -15,9 +15,9 @@ use Rattle.records.specs.Records.Entry.{link, offer, begins, fault}
 use Rattle.records.specs.Refusals.{Refusal, refusal, _otherwise_, placeIf, tooLong, notWhole, faulty, unsound}
 use Rattle.records.proofs.Entries.{Fits, entry-fits, short-file}
 
--- 0 and 8 stand for nothing, and 12 is a market's
+-- 1 to 7, 9 to 11, 13 and 14: 8 is never given, and 12 is a market's
 abbrev pub listed : ℕ → Bool
-listed k = not (eqb k 0 || eqb k 8 || eqb k 12)
+listed k = (ltb 0 k && ltb k 8) || (ltb 8 k && ltb k 12) || eqb k 13 || eqb k 14
 
 pub record Allowed (r : Refusal) : Type 0 where
   pub number : listed (r .number) ≡ true

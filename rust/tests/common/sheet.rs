@@ -100,7 +100,8 @@ impl Sheet {
         }
     }
 
-    /// The market in `d`-ths of a unit, every number but a slope told `d` times.
+    /// The market in `d`-ths of a unit: capacities, units, prices and bases times `d`, and slopes as
+    /// they were.
     pub fn in_parts(&self, d: i64) -> Sheet {
         let mut parts = self.clone();
         for link in &mut parts.links {
