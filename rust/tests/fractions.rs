@@ -111,7 +111,7 @@ fn check_misread(sheet: &Sheet, misread: impl Fn(i64, &mut Sheet)) {
     let whole = cleared_total(sheet, &mut Random::new(1)).expect("an answer");
     for d in PARTS {
         let mut parts = sheet.in_parts(d);
-        let best = |parts| highest(parts, d).of_all.expect("an allocation");
+        let best = |parts: &Sheet| highest(parts, d).of_all.expect("an allocation");
         assert_eq!(best(&parts), d * whole, "in parts of 1/{d}");
         misread(d, &mut parts);
         assert!(best(&parts) > d * whole, "in parts of 1/{d}: {parts:?}");

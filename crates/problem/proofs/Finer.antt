@@ -33,9 +33,9 @@ scale-le (suc r) x y h = mul-le-mul-left (suc r) (h (omega arith))
 
 -- Let p, z and y be t, S and X units and the parts r, s and R. Where r + s = R, the prices at t and S are for X, and those at t + 1 and S
 -- or at t and S + 1 for X + 1.
-mix-short : (A r s f0 f1 g0 g1 h0 h1 : ℕ) → f0 + g0 ≤ h0 → (r ≢ 0 → f1 + g0 ≤ h1) → (s ≢ 0 → f0 + g1 ≤ h1)
-    → ((A + s) * f0 + r * f1) + ((A + r) * g0 + s * g1) ≤ A * h0 + (r + s) * h1
-mix-short A r s f0 f1 g0 g1 h0 h1 p q o =
+mix-short : (A r s f0 f1 g0 g1 h0 h1 : ℕ) {v u : ℕ} → f0 + g0 ≤ h0 → (r ≢ 0 → f1 + g0 ≤ h1) → (s ≢ 0 → f0 + g1 ≤ h1)
+    → v ≤ (A + s) * f0 + r * f1 → u ≤ (A + r) * g0 + s * g1 → v + u ≤ A * h0 + (r + s) * h1
+mix-short A r s f0 f1 g0 g1 h0 h1 p q o hv hu =
     omega (
       arith,
       mul-le-mul-left A p,
@@ -50,9 +50,9 @@ mix-short A r s f0 f1 g0 g1 h0 h1 p q o =
     )
 
 -- Where r + s = d + R, the prices at t and S + 1 or at t + 1 and S are for X, and those at t + 1 and S + 1 for X + 1.
-mix-over : (a b R f0 f1 g0 g1 h0 h1 : ℕ) → f0 + g1 ≤ h0 → f1 + g0 ≤ h0 → (R ≢ 0 → f1 + g1 ≤ h1)
-    → (a * f0 + (b + R) * f1) + (b * g0 + (a + R) * g1) ≤ (a + b) * h0 + R * h1
-mix-over a b R f0 f1 g0 g1 h0 h1 p q o =
+mix-over : (a b R f0 f1 g0 g1 h0 h1 : ℕ) {v u : ℕ} → f0 + g1 ≤ h0 → f1 + g0 ≤ h0 → (R ≢ 0 → f1 + g1 ≤ h1)
+    → v ≤ a * f0 + (b + R) * f1 → u ≤ b * g0 + (a + R) * g1 → v + u ≤ (a + b) * h0 + R * h1
+mix-over a b R f0 f1 g0 g1 h0 h1 p q o hv hu =
     omega (
       arith,
       mul-le-mul-left a p,
@@ -91,13 +91,8 @@ short F G w A r s t X v u l l′ f g =
       low = h0 .there;
       high = λ n. elim (eq-zero-or-pos r) [ inl e ↦ late (omega arith) .there | inr q ↦ next (omega arith) .there ];
       under =
-          omega (
-            arith,
-            f .under,
-            g .under,
-            mix-short A r s (pred (F t)) (pred (F (suc t))) (pred (G S)) (pred (G (suc S))) (pred (join F G w X)) (pred (join F G w (suc X)))
-                (h0 .sum) (λ n. next n .sum) (λ n. late n .sum),
-          );
+          mix-short A r s (pred (F t)) (pred (F (suc t))) (pred (G S)) (pred (G (suc S))) (pred (join F G w X)) (pred (join F G w (suc X)))
+          (h0 .sum) (λ n. next n .sum) (λ n. late n .sum) (f .under) (g .under);
     }
   where
     next : r ≢ 0 → Above (F (suc t)) (G (X + (w - t))) (join F G w (suc X))
@@ -119,13 +114,8 @@ over F G w a b R t X v u ha hb l f g =
       low = p0 .there;
       high = λ n. o1 .there;
       under =
-          omega (
-            arith,
-            f .under,
-            g .under,
-            mix-over a b R (pred (F t)) (pred (F (suc t))) (pred (G S)) (pred (G (suc S))) (pred (join F G w X)) (pred (join F G w (suc X)))
-                (p0 .sum) (q0 .sum) (λ n. o1 .sum),
-          );
+          mix-over a b R (pred (F t)) (pred (F (suc t))) (pred (G S)) (pred (G (suc S))) (pred (join F G w X)) (pred (join F G w (suc X)))
+          (p0 .sum) (q0 .sum) (λ n. o1 .sum) (f .under) (g .under);
     }
 
 module _ (d : ℕ) (Fd F Gd G : ℕ → ℕ) (w : ℕ) (hF : Finer d Fd F) (hG : Finer d Gd G) where

@@ -14,6 +14,7 @@ use Rattle.numbers.proofs.Tests.{true-false, bool-cases, eqZ-same, eqZ-true, eq
 use Rattle.numbers.proofs.Times.{times-abs, times-le, times-le-back, times-same, times-plus, times-minus, times-swap, one-times}
 use Rattle.problem.specs.Problem.{Link, Terms, Offer, Market, bought, sold, net, worth, offered, higher, value, plus, totalTo, total, InRange, Possible}
 use Rattle.problem.specs.Fractions.{linkIn, termsIn, offerIn, marketIn, PossibleIn, flowsIn}
+use Rattle.problem.proofs.Flows.{share, net-more}
 
 -- ---- in ones
 
@@ -46,27 +47,21 @@ ones-possible m = ap Possible (ones m)
 -- ---- nets in d-ths
 
 module _ (d : ℕ) where
-  part-times : (b : Bool) (y : ℤ) → cond b (pos d *ℤ y) (pos 0) ≡ pos d *ℤ cond b y (pos 0)
-  part-times true y = refl
-  part-times false y = sym (*ℤ-zero (pos d))
-
-  bought-times : (j : ℕ) (ls : List Link) (ys : List ℤ) → bought j (map (linkIn d) ls) (flowsIn d ys) ≡ pos d *ℤ bought j ls ys
-  unfolding bought
-  bought-times j [] ys = sym (*ℤ-zero (pos d))
-  bought-times j (l ∷ ls) [] = sym (*ℤ-zero (pos d))
-  bought-times j (l ∷ ls) (y ∷ ys) =
-      ap₂ _+ℤ_ (part-times (eqb j (l .b)) y) (bought-times j ls ys) ∙ sym (times-plus (pos d) (cond (eqb j (l .b)) y (pos 0)) (bought j ls ys))
-
-  sold-times : (j : ℕ) (ls : List Link) (ys : List ℤ) → sold j (map (linkIn d) ls) (flowsIn d ys) ≡ pos d *ℤ sold j ls ys
-  unfolding sold
-  sold-times j [] ys = sym (*ℤ-zero (pos d))
-  sold-times j (l ∷ ls) [] = sym (*ℤ-zero (pos d))
-  sold-times j (l ∷ ls) (y ∷ ys) =
-      ap₂ _+ℤ_ (part-times (eqb j (l .a)) y) (sold-times j ls ys) ∙ sym (times-plus (pos d) (cond (eqb j (l .a)) y (pos 0)) (sold j ls ys))
+  share-times : (j : ℕ) (l : Link) (y : ℤ) → share j l (pos d *ℤ y) ≡ pos d *ℤ share j l y
+  share-times j l y =
+      ap₂ _-ℤ_ (if-any (eqb j (l .b))) (if-any (eqb j (l .a))) ∙ sym (times-minus (pos d) (cond (eqb j (l .b)) y (pos 0)) (cond (eqb j (l .a)) y (pos 0)))
+    where
+      if-any : (b : Bool) → cond b (pos d *ℤ y) (pos 0) ≡ pos d *ℤ cond b y (pos 0)
+      if-any true = refl
+      if-any false = sym (*ℤ-zero (pos d))
 
   net-times : (j : ℕ) (ls : List Link) (ys : List ℤ) → net j (map (linkIn d) ls) (flowsIn d ys) ≡ pos d *ℤ net j ls ys
-  unfolding net
-  net-times j ls ys = ap₂ _-ℤ_ (bought-times j ls ys) (sold-times j ls ys) ∙ sym (times-minus (pos d) (bought j ls ys) (sold j ls ys))
+  unfolding net bought sold
+  net-times j [] ys = sym (*ℤ-zero (pos d))
+  net-times j (l ∷ ls) [] = sym (*ℤ-zero (pos d))
+  net-times j (l ∷ ls) (y ∷ ys) =
+      net-more j (linkIn d l) (map (linkIn d) ls) (pos d *ℤ y) (flowsIn d ys) ∙ ap₂ _+ℤ_ (share-times j l y) (net-times j ls ys)
+      ∙ sym (times-plus (pos d) (share j l y) (net j ls ys)) ∙ sym (ap (λ (z : ℤ). pos d *ℤ z) (net-more j l ls y ys))
 
   range-times : {ls : List Link} {ys : List ℤ} → InRange ls ys → InRange (map (linkIn d) ls) (flowsIn d ys)
   range-times InRange.end = InRange.end
