@@ -73,17 +73,18 @@ fn fractions_of_small_markets_pay_no_more() {
 #[test]
 fn fractions_of_the_largest_markets_pay_no_more() {
     let mut possible = 0;
-    let count = cases("CLEARING_LARGE", 6, |random| {
-        let shape = random.pick(&[Shape::Star, Shape::Chain, Shape::Tree]);
-        let sheet = large::random_sheet(Tables::Both, shape, random);
-        let whole = cleared_total(&sheet, random);
-        possible += u64::from(whole.is_some());
-        for d in PARTS {
-            let best = best_total(&sheet.in_parts(d));
-            assert_eq!(best, whole.map(|total| d * total), "in parts of 1/{d}");
+    let count = cases("CLEARING_LARGE", 4, |random| {
+        for shape in [Shape::Star, Shape::Chain, Shape::Tree] {
+            let sheet = large::random_sheet(Tables::Both, shape, random);
+            let whole = cleared_total(&sheet, random);
+            possible += u64::from(whole.is_some());
+            for d in PARTS {
+                let best = best_total(&sheet.in_parts(d));
+                assert_eq!(best, whole.map(|total| d * total), "in parts of 1/{d}");
+            }
         }
     });
-    assert!(possible >= count / 2, "{possible} of {count} are possible");
+    assert!(possible >= 2 * count, "{possible} of 3 times {count}");
 }
 
 /// Member 1 sells and member 2 buys, by spans, over a link of such a capacity.
