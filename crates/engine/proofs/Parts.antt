@@ -85,12 +85,12 @@ module _ (msgs row store : List ℕ) (i w len c : ℕ) (cs : c ≡ slotOf i) (lm
   msg-at : (p : ℕ) → p ≤ w → getD msg p 0 ≡ getD msgs (i * 81 + p) 0
   msg-at p l = part-at msgs (i * 81) (i * 81 + w + 1 - i * 81) p (omega arith)
 
-  pub combine-asks : w ≤ 80 → len ≤ 2481 → ((p : ℕ) → p ≤ w → getD msgs (i * 81 + p) 0 < 2 ^ 31) → ((x : ℕ) → x < len → getD row x 0 < 2 ^ 31)
-      → ((1 ≤ length msg) × (length msg ≤ 81) × (length msg ≤ length (take len row)) × (length (take len row) + 1 ≤ length (partOf store c (c + (len - w) - c)) + length msg) × (length (take len row) ≤ 2481))
+  pub combine-asks : w ≤ 80 → ((p : ℕ) → p ≤ w → getD msgs (i * 81 + p) 0 < 2 ^ 31) → ((x : ℕ) → x < len → getD row x 0 < 2 ^ 31)
+      → ((1 ≤ length msg) × (length msg ≤ 81) × (length msg ≤ length (take len row)) × (length (take len row) + 1 ≤ length (partOf store c (c + (len - w) - c)) + length msg))
       × (((y : ℕ) → y < length (take len row) → getD (take len row) y 0 < 2 ^ 31) × ((p : ℕ) → p < length msg → getD msg p 0 < 2 ^ 31))
-  combine-asks hw hl hm hr =
+  combine-asks hw hm hr =
       let l = lengths in (
-        (omega arith, omega arith, omega arith, omega arith, omega arith),
+        (omega arith, omega arith, omega arith, omega arith),
         (
           (λ y d. rw (getD-take len row y 0 (omega (arith, l .1))) (hr y (omega (arith, l .1)))),
           (λ p d. rw (msg-at p (omega (arith, l .0))) (hm p (omega (arith, l .0)))),

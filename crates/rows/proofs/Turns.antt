@@ -6,8 +6,8 @@ use Prim.Native.Nat.{ℕ, zero, suc, _+_, _-_, _<_, _≤_}
 use native.Mathlib.Nat.{eq-or-lt-of-le}
 use native.Mathlib.Numerals.{add-one}
 use native.Mathlib.Omega.{arith}
-use lib.ListN.{length, getD, take, set, length-set}
-use lib.Seq.{getD-set-same, getD-set-other, getD-take}
+use lib.ListN.{length, getD, set, length-set}
+use lib.Seq.{getD-set-same, getD-set-other}
 use borrow.Author.Count.{below-none}
 use borrow.Author.Tests.{lt-ltb, le-ltb}
 use Rattle.problem.proofs.Cell.{_⊕_, ⊕-comm}
@@ -62,10 +62,7 @@ one-made {f} {old} {row} {x} {v} m l e = record {
   past = λ y h. getD-set-other row x y v 0 (omega arith) ∙ m .past y (omega arith);
 }
 
--- ---- a message meets a copy of the row as it meets the row
-pub copied-meets : (row old msg : List ℕ) (x : ℕ) → ((y : ℕ) → y < length row → getD old y 0 ≡ getD row y 0)
-    → 1 ≤ length msg → x + length msg ≤ length row → (p : ℕ) → p ≤ length msg - 1 → meets (take (length row) old) msg x p ≡ meets row msg x p
+-- ---- at cell x a message meets a row that is made below x as it meets the old row
+pub made-meets : {f : ℕ → ℕ} {old row : List ℕ} {x : ℕ} → Made f old row x → (msg : List ℕ) (p : ℕ) → meets row msg x p ≡ meets old msg x p
 unfolding meets
-copied-meets row old msg x e h l p d =
-    let i : x + (length msg - 1 - p) < length row = omega arith in
-    ap (λ (v : ℕ). getD msg p 0 ⊕ v) (getD-take (length row) old (x + (length msg - 1 - p)) 0 i ∙ e (x + (length msg - 1 - p)) i)
+made-meets {x} m msg p = ap (λ (v : ℕ). getD msg p 0 ⊕ v) (m .past (x + (length msg - 1 - p)) (omega arith))

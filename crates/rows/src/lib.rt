@@ -304,20 +304,19 @@ pub fn copy_cells(from: &[u32], to: &mut [u32])
     }
 }
 
-// A message taken into a row, with the choice that each cell was made by. The old row is kept beside the new one. The cells
-// and choices past those that are left stay.
+// A message taken into a row, with the choice that each cell was made by. The row is worked out where it stands: a cell is made
+// of the old cells from its own place on, so with x rising every cell is read before it is written. The cells and choices past
+// those that are left stay.
 pub fn combine(row: &mut [u32], msg: &[u32], choice: &mut [u8])
-    requires sizes { ⌜ (1 ≤ length (now msg)) × (length (now msg) ≤ 81) × (length (now msg) ≤ length (now row)) × (length (now row) + 1 ≤ length (now choice) + length (now msg)) × (length (now row) ≤ 2481) ⌝ }
+    requires sizes { ⌜ (1 ≤ length (now msg)) × (length (now msg) ≤ 81) × (length (now msg) ≤ length (now row)) × (length (now row) + 1 ≤ length (now choice) + length (now msg)) ⌝ }
     requires values { ⌜ ((y : ℕ) → y < length (now row) → getD (now row) y 0 < 2 ^ 31) × ((p : ℕ) → p < length (now msg) → getD (now msg) p 0 < 2 ^ 31) ⌝ }
     ensures { λ _. ⌜ Combined (now (row .entry)) (now (msg .entry)) (now (choice .entry)) (now (row .exit)) (now (choice .exit)) ⌝ }
 {
-    let mut old: [u32; 2481] = [0; 2481];
-    copy_cells(row, &mut old);
-    let n = row.len();
-    let left = n + 1 - msg.len();
+    let w = msg.len() - 1;
+    let left = row.len() - w;
     let mut x: usize = 0;
     while x < left {
-        let c = cell(&old[..n], msg, x);
+        let c = cell(row, msg, x);
         row[x] = c.best;
         choice[x] = c.pick;
         x += 1;

@@ -67,7 +67,7 @@ combine-requires c κs =
     let a = st .args in
     let r : s .slot .result + (a .len - a .w) ≤ 37231 = room s in
     combine-asks (a .messages .now) (a .row .now) (a .choices .now) (a .i) (a .w) (a .len) (s .slot .result) (s .slot .ensures)
-    (omega arith) (omega arith) (omega arith) (omega arith) (omega arith) (omega arith) (st .pre .1 .1 .0) (st .pre .1 .1 .1)
+    (omega arith) (omega arith) (omega arith) (omega arith) (omega arith) (st .pre .1 .1 .0) (st .pre .1 .1 .1)
 
 same-length : tie.Need-same-length
 same-length c = search needs
