@@ -11,7 +11,7 @@ pub const ANSWER_LIMIT: usize = 512;
 
 /// Bytes of stack that are enough for a call of [`clear`], or of one with a typed answer, whatever
 /// the file.
-pub const STACK: usize = 72 * 1024;
+pub const STACK: usize = 64 * 1024;
 
 extern "C" {
     fn clearing_clear(file: *const u8, file_len: usize, answer: *mut u8, answer_len: usize) -> u64;

@@ -1,5 +1,5 @@
-//! The stack that the documentation of `clear` names is enough, for every kind of file, and a typed
-//! answer adds less to it than its own bytes.
+//! The stack that the documentation of `clear` names is enough, for every kind of file and on a thread
+//! that has no more, and a typed answer adds less to it than its own bytes.
 
 use crate::common::cases;
 use crate::examples::committed;
@@ -7,6 +7,7 @@ use crate::files::random_file;
 use crate::painted::stack_used;
 use clearing::{clear, clear_market, Market, ANSWER_LIMIT, STACK};
 use std::hint::black_box;
+use std::thread;
 
 fn assert_enough(market: &Market) {
     let mut area = [0; ANSWER_LIMIT];
@@ -41,4 +42,20 @@ fn a_call_needs_no_more_stack_than_is_documented() {
     cases("CLEARING_RUNS", 300, |random| {
         assert_enough(&Market::from(random_file(random)));
     });
+}
+
+#[test]
+fn the_largest_files_clear_on_a_thread_that_has_no_more() {
+    for name in ["star", "chain", "star_spans", "chain_spans"] {
+        let market = Market::from(committed(name));
+        let expected = clear_market(&market);
+        let mut area = vec![0; ANSWER_LIMIT];
+        let small = thread::Builder::new().stack_size(STACK);
+        let (written, answer) = small
+            .spawn(move || (clear(market.file(), &mut area), clear_market(&market)))
+            .and_then(|thread| Ok(thread.join().expect("neither call panics")))
+            .expect("a thread of that size starts");
+        assert_eq!(written, Ok(ANSWER_LIMIT), "{name}");
+        assert_eq!(answer, expected, "{name}");
+    }
 }
