@@ -2,18 +2,28 @@
 //! with spans: its time, the stack it uses, and how much longer spans take than points. Where the machine
 //! has other work, the least times vary less than the medians.
 //! `cargo run --release --example bench`, on x86-64.
+//!
+//! Another version of the library is raced in the same run, each file cleared by both in turn, where its
+//! archive as a shared object is given: `cargo run --release --example bench -- OTHER.so`, made by
+//! `cc -shared -o OTHER.so -Wl,--whole-archive libentry.a -Wl,--no-whole-archive`.
 
 #[path = "../tests/painted.rs"]
 mod painted;
 
 use clearing::{clear, clear_file, ANSWER_LIMIT};
 use painted::stack_used;
+use std::env;
+use std::ffi::{c_char, c_int, c_void, CString};
 use std::fs;
 use std::hint::black_box;
+use std::mem;
 use std::path::Path;
 use std::time::{Duration, Instant};
 
 const RUNS: usize = 501;
+
+/// A version of the library: it clears a file into an area, and gives the number of bytes written.
+type Version = Box<dyn Fn(&[u8], &mut [u8]) -> Option<u64>>;
 
 /// What the clearings of one file took.
 struct Took {
@@ -22,61 +32,107 @@ struct Took {
 }
 
 fn main() -> Result<(), String> {
+    let mut versions: Vec<Version> = vec![Box::new(|file, area| {
+        clear(file, area).ok().map(|written| written as u64)
+    })];
+    if let Some(object) = env::args().nth(1) {
+        versions.push(other_version(&object)?);
+    }
     for shape in ["star", "chain"] {
-        let points = example(shape)?;
-        let spans = example(&format!("{shape}_spans"))?;
-        let [for_points, for_spans] = measured([&points, &spans]);
+        let points = example(shape, &versions)?;
+        let spans = example(&format!("{shape}_spans"), &versions)?;
+        let [for_points, for_spans] = measured([&points, &spans], &versions);
         println!("{shape} of 32 members, capacities 40, 64 offers each:");
-        print_figures(&points, &for_points);
+        print_figures(&points, &versions, &for_points);
         println!("{shape} of 32 members, capacities 40, 64 spans each:");
-        print_figures(&spans, &for_spans);
-        let by_median = ratio(for_spans.median, for_points.median);
-        let by_least = ratio(for_spans.least, for_points.least);
-        println!(
-            "  {by_median:.2} times the {shape} above by the medians, {by_least:.2} by the least"
+        print_figures(&spans, &versions, &for_spans);
+        print_ratio(
+            &for_spans[0],
+            &for_points[0],
+            &format!("the {shape} of offers"),
         );
     }
     Ok(())
 }
 
-/// The bytes of an example file that is cleared.
-fn example(name: &str) -> Result<Vec<u8>, String> {
+/// The version in a shared object.
+fn other_version(object: &str) -> Result<Version, String> {
+    type Entry = unsafe extern "C" fn(*const u8, usize, *mut u8, usize) -> u64;
+    extern "C" {
+        fn dlopen(path: *const c_char, mode: c_int) -> *mut c_void;
+        fn dlsym(object: *mut c_void, name: *const c_char) -> *mut c_void;
+    }
+    const RTLD_NOW: c_int = 2;
+    let found = fs::canonicalize(object).map_err(|error| format!("{object}: {error}"))?;
+    let path = CString::new(found.into_os_string().into_encoded_bytes())
+        .map_err(|error| format!("{object}: {error}"))?;
+    // SAFETY: both names end in a zero and outlive the calls, and an object that is loaded stays.
+    let entry = unsafe {
+        let loaded = dlopen(path.as_ptr(), RTLD_NOW);
+        match loaded.is_null() {
+            true => loaded,
+            false => dlsym(loaded, c"clearing_clear".as_ptr()),
+        }
+    };
+    if entry.is_null() {
+        return Err(format!("{object}: no shared object with the entry"));
+    }
+    // SAFETY: the entry has this type in every version.
+    let entry = unsafe { mem::transmute::<*mut c_void, Entry>(entry) };
+    Ok(Box::new(move |file, area| {
+        // SAFETY: as in the library's own call of its entry.
+        let code = unsafe { entry(file.as_ptr(), file.len(), area.as_mut_ptr(), area.len()) };
+        (code < 65_536).then_some(code)
+    }))
+}
+
+/// The bytes of an example file, which every version clears with the same answer.
+fn example(name: &str, versions: &[Version]) -> Result<Vec<u8>, String> {
     let folder = Path::new(env!("CARGO_MANIFEST_DIR")).join("../examples");
     let path = folder.join(name).with_extension("market");
     let file = fs::read(&path).map_err(|error| format!("{}: {error}", path.display()))?;
-    clear(&file, &mut [0; ANSWER_LIMIT]).map_err(|refusal| format!("{name}: {refusal}"))?;
+    let mut answers = versions.iter().map(|version| {
+        let mut area = [0; ANSWER_LIMIT];
+        version(&file, &mut area).map(|written| (written, area))
+    });
+    let Some(Some(answer)) = answers.next() else {
+        return Err(format!("{name}: refused"));
+    };
+    if answers.any(|other| other != Some(answer)) {
+        return Err(format!("{name}: the other version has another answer"));
+    }
     Ok(file)
 }
 
-/// What each of two files takes, cleared in turn.
-fn measured(files: [&[u8]; 2]) -> [Took; 2] {
-    let mut times = [Vec::new(), Vec::new()];
+/// What each of two files takes each version, all in turn.
+fn measured(files: [&[u8]; 2], versions: &[Version]) -> [Vec<Took>; 2] {
+    let mut times = files.map(|_| vec![Vec::new(); versions.len()]);
     for _ in 0..RUNS {
         for (file, times) in files.iter().zip(&mut times) {
-            times.push(time(file));
+            for (version, times) in versions.iter().zip(times) {
+                times.push(time(version, file));
+            }
         }
     }
-    times.map(|mut times| {
-        times.sort();
-        Took {
-            median: times[RUNS / 2],
-            least: times[0],
-        }
-    })
+    times.map(|versions| versions.into_iter().map(took).collect())
 }
 
-fn time(file: &[u8]) -> Duration {
+fn time(version: &Version, file: &[u8]) -> Duration {
     let mut area = [0; ANSWER_LIMIT];
     let start = Instant::now();
-    let _ = black_box(clear(black_box(file), &mut area));
+    let _ = black_box(version(black_box(file), &mut area));
     start.elapsed()
 }
 
-fn ratio(time: Duration, to: Duration) -> f64 {
-    time.as_secs_f64() / to.as_secs_f64()
+fn took(mut times: Vec<Duration>) -> Took {
+    times.sort();
+    Took {
+        median: times[RUNS / 2],
+        least: times[0],
+    }
 }
 
-fn print_figures(file: &[u8], took: &Took) {
+fn print_figures(file: &[u8], versions: &[Version], took: &[Took]) {
     let mut area = [0; ANSWER_LIMIT];
     let stack = stack_used(&mut || {
         let _ = black_box(clear(file, &mut area));
@@ -84,7 +140,26 @@ fn print_figures(file: &[u8], took: &Took) {
     let typed = stack_used(&mut || {
         black_box(&clear_file(file));
     });
+    print_times(&took[0]);
+    println!("  {stack} bytes of stack, {typed} with a typed answer");
+    if let ([_, other], [this_took, other_took]) = (versions, took) {
+        let stack = stack_used(&mut || {
+            let _ = black_box(other(file, &mut area));
+        });
+        println!("  the other version:");
+        print_times(other_took);
+        println!("  {stack} bytes of stack");
+        print_ratio(this_took, other_took, "the other version");
+    }
+}
+
+fn print_times(took: &Took) {
     let (median, least) = (took.median.as_micros(), took.least.as_micros());
     println!("  {median} microseconds, median of {RUNS} clearings; {least} at the least");
-    println!("  {stack} bytes of stack, {typed} with a typed answer");
+}
+
+fn print_ratio(took: &Took, to: &Took, what: &str) {
+    let by_median = took.median.as_secs_f64() / to.median.as_secs_f64();
+    let by_least = took.least.as_secs_f64() / to.least.as_secs_f64();
+    println!("  {by_median:.2} times {what} by the medians, {by_least:.2} by the least");
 }
