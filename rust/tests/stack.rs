@@ -50,11 +50,11 @@ fn the_largest_files_clear_on_a_thread_that_has_no_more() {
         let market = Market::from(committed(name));
         let expected = clear_market(&market);
         let mut area = vec![0; ANSWER_LIMIT];
-        let small = thread::Builder::new().stack_size(STACK);
-        let (written, answer) = small
+        let thread = thread::Builder::new()
+            .stack_size(STACK)
             .spawn(move || (clear(market.file(), &mut area), clear_market(&market)))
-            .and_then(|thread| Ok(thread.join().expect("neither call panics")))
             .expect("a thread of that size starts");
+        let (written, answer) = thread.join().expect("neither call panics");
         assert_eq!(written, Ok(ANSWER_LIMIT), "{name}");
         assert_eq!(answer, expected, "{name}");
     }
