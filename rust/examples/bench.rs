@@ -14,6 +14,7 @@ use clearing::{clear, clear_file, ANSWER_LIMIT};
 use painted::stack_used;
 use std::env;
 use std::ffi::{c_char, c_int, c_void, CString};
+use std::fmt::Display;
 use std::fs;
 use std::hint::black_box;
 use std::mem;
@@ -23,7 +24,7 @@ use std::time::{Duration, Instant};
 const RUNS: usize = 501;
 
 /// A version of the library: it clears a file into an area, and gives the number of bytes written.
-type Version = Box<dyn Fn(&[u8], &mut [u8]) -> Option<u64>>;
+type Version = Box<dyn Fn(&[u8], &mut [u8]) -> Option<usize>>;
 
 /// What the clearings of one file took.
 struct Took {
@@ -32,11 +33,13 @@ struct Took {
 }
 
 fn main() -> Result<(), String> {
-    let mut versions: Vec<Version> = vec![Box::new(|file, area| {
-        clear(file, area).ok().map(|written| written as u64)
-    })];
-    if let Some(object) = env::args().nth(1) {
-        versions.push(other_version(&object)?);
+    let mut versions: Vec<Version> = vec![Box::new(|file, area| clear(file, area).ok())];
+    let mut given = env::args_os().skip(1);
+    if let Some(object) = given.next() {
+        versions.push(other_version(Path::new(&object))?);
+    }
+    if given.next().is_some() {
+        return Err("at most one other version is raced".to_string());
     }
     for shape in ["star", "chain"] {
         let points = example(shape, &versions)?;
@@ -49,40 +52,40 @@ fn main() -> Result<(), String> {
         print_ratio(
             &for_spans[0],
             &for_points[0],
-            &format!("the {shape} of offers"),
+            &format!("the {shape} of points"),
         );
     }
     Ok(())
 }
 
 /// The version in a shared object.
-fn other_version(object: &str) -> Result<Version, String> {
+fn other_version(object: &Path) -> Result<Version, String> {
     type Entry = unsafe extern "C" fn(*const u8, usize, *mut u8, usize) -> u64;
     extern "C" {
         fn dlopen(path: *const c_char, mode: c_int) -> *mut c_void;
         fn dlsym(object: *mut c_void, name: *const c_char) -> *mut c_void;
     }
     const RTLD_NOW: c_int = 2;
-    let found = fs::canonicalize(object).map_err(|error| format!("{object}: {error}"))?;
-    let path = CString::new(found.into_os_string().into_encoded_bytes())
-        .map_err(|error| format!("{object}: {error}"))?;
-    // SAFETY: both names end in a zero and outlive the calls, and an object that is loaded stays.
-    let entry = unsafe {
-        let loaded = dlopen(path.as_ptr(), RTLD_NOW);
-        match loaded.is_null() {
-            true => loaded,
-            false => dlsym(loaded, c"clearing_clear".as_ptr()),
-        }
-    };
-    if entry.is_null() {
-        return Err(format!("{object}: no shared object with the entry"));
+    let fault = |words: &dyn Display| format!("{}: {words}", object.display());
+    let found = fs::canonicalize(object).map_err(|error| fault(&error))?;
+    let path =
+        CString::new(found.into_os_string().into_encoded_bytes()).map_err(|error| fault(&error))?;
+    // SAFETY: the path ends in a zero and outlives the call.
+    let loaded = unsafe { dlopen(path.as_ptr(), RTLD_NOW) };
+    if loaded.is_null() {
+        return Err(fault(&"cannot be loaded as a shared object"));
     }
-    // SAFETY: the entry has this type in every version.
+    // SAFETY: the name ends in a zero, and the object is loaded.
+    let entry = unsafe { dlsym(loaded, c"clearing_clear".as_ptr()) };
+    if entry.is_null() {
+        return Err(fault(&"has no entry clearing_clear"));
+    }
+    // SAFETY: the entry has this type in every version, and its object is never unloaded.
     let entry = unsafe { mem::transmute::<*mut c_void, Entry>(entry) };
     Ok(Box::new(move |file, area| {
         // SAFETY: as in the library's own call of its entry.
         let code = unsafe { entry(file.as_ptr(), file.len(), area.as_mut_ptr(), area.len()) };
-        (code < 65_536).then_some(code)
+        (code < 65_536).then_some(code as usize)
     }))
 }
 
@@ -91,30 +94,32 @@ fn example(name: &str, versions: &[Version]) -> Result<Vec<u8>, String> {
     let folder = Path::new(env!("CARGO_MANIFEST_DIR")).join("../examples");
     let path = folder.join(name).with_extension("market");
     let file = fs::read(&path).map_err(|error| format!("{}: {error}", path.display()))?;
-    let mut answers = versions.iter().map(|version| {
+    let mut answer = [0; ANSWER_LIMIT];
+    let written = clear(&file, &mut answer).map_err(|refusal| format!("{name}: {refusal}"))?;
+    for version in versions {
         let mut area = [0; ANSWER_LIMIT];
-        version(&file, &mut area).map(|written| (written, area))
-    });
-    let Some(Some(answer)) = answers.next() else {
-        return Err(format!("{name}: refused"));
-    };
-    if answers.any(|other| other != Some(answer)) {
-        return Err(format!("{name}: the other version has another answer"));
+        if version(&file, &mut area) != Some(written) || area != answer {
+            return Err(format!(
+                "{name}: the other version refuses it or has another answer"
+            ));
+        }
     }
     Ok(file)
 }
 
-/// What each of two files takes each version, all in turn.
+/// What each of two files takes each version: all in turn, and the other way round every second time.
 fn measured(files: [&[u8]; 2], versions: &[Version]) -> [Vec<Took>; 2] {
     let mut times = files.map(|_| vec![Vec::new(); versions.len()]);
+    let mut order: Vec<(usize, usize)> = (0..files.len())
+        .flat_map(|file| (0..versions.len()).map(move |version| (file, version)))
+        .collect();
     for _ in 0..RUNS {
-        for (file, times) in files.iter().zip(&mut times) {
-            for (version, times) in versions.iter().zip(times) {
-                times.push(time(version, file));
-            }
+        for &(file, version) in &order {
+            times[file][version].push(time(&versions[version], files[file]));
         }
+        order.reverse();
     }
-    times.map(|versions| versions.into_iter().map(took).collect())
+    times.map(|by_version| by_version.into_iter().map(took).collect())
 }
 
 fn time(version: &Version, file: &[u8]) -> Duration {

@@ -9,8 +9,10 @@ pub const FILE_LIMIT: usize = 33_016;
 /// The most bytes that an answer has: 16 for each of 32 members.
 pub const ANSWER_LIMIT: usize = 512;
 
-/// Bytes of stack that are enough for a thread that makes a call of [`clear`], or of one with a typed
-/// answer, whatever the file. What else the thread does comes on top.
+/// Bytes of stack that are enough, in a release build, for a thread that only makes a call of [`clear`],
+/// or of one with a typed answer, whatever the file. Some 5,000 of them are for the thread's start
+/// (measured with Debian 12's C library); a service's thread-local values, and what else the thread
+/// does, come on top.
 pub const STACK: usize = 64 * 1024;
 
 extern "C" {

@@ -1,5 +1,5 @@
-//! The stack that the documentation of `clear` names is enough, for every kind of file and on a thread
-//! that has no more, and a typed answer adds less to it than its own bytes.
+//! A call takes no more stack than the federation allows, for every kind of file, and a thread that has
+//! the stack that the package names clears the largest. A typed answer adds less than its own bytes.
 
 use crate::common::cases;
 use crate::examples::committed;
@@ -9,7 +9,10 @@ use clearing::{clear, clear_market, Market, ANSWER_LIMIT, STACK};
 use std::hint::black_box;
 use std::thread;
 
-fn assert_enough(market: &Market) {
+/// The most bytes of stack that the federation allows a call.
+const CALL: usize = 60_000;
+
+fn assert_allowed(market: &Market) {
     let mut area = [0; ANSWER_LIMIT];
     let bytes = stack_used(&mut || {
         let _ = black_box(clear(market.file(), &mut area));
@@ -17,7 +20,7 @@ fn assert_enough(market: &Market) {
     let typed = stack_used(&mut || {
         black_box(&clear_market(market));
     });
-    assert!(bytes.max(typed) <= STACK, "{bytes} bytes, {typed} typed");
+    assert!(bytes <= CALL, "{bytes} bytes");
     assert!(
         typed <= bytes + ANSWER_LIMIT,
         "{bytes} bytes, {typed} typed"
@@ -25,7 +28,7 @@ fn assert_enough(market: &Market) {
 }
 
 #[test]
-fn a_call_needs_no_more_stack_than_is_documented() {
+fn a_call_takes_no_more_stack_than_is_allowed() {
     for name in [
         "star",
         "chain",
@@ -37,20 +40,22 @@ fn a_call_needs_no_more_stack_than_is_documented() {
         "ring",
         "battery",
     ] {
-        assert_enough(&Market::from(committed(name)));
+        assert_allowed(&Market::from(committed(name)));
     }
     cases("CLEARING_RUNS", 300, |random| {
-        assert_enough(&Market::from(random_file(random)));
+        assert_allowed(&Market::from(random_file(random)));
     });
 }
 
 #[test]
-fn the_largest_files_clear_on_a_thread_that_has_no_more() {
+#[cfg_attr(debug_assertions, ignore = "`STACK` is for a release build")]
+fn the_largest_files_clear_on_a_small_thread() {
     for name in ["star", "chain", "star_spans", "chain_spans"] {
         let market = Market::from(committed(name));
         let expected = clear_market(&market);
         let mut area = vec![0; ANSWER_LIMIT];
         let thread = thread::Builder::new()
+            .name(name.to_string())
             .stack_size(STACK)
             .spawn(move || (clear(market.file(), &mut area), clear_market(&market)))
             .expect("a thread of that size starts");

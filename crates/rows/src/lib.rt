@@ -305,7 +305,7 @@ pub fn copy_cells(from: &[u32], to: &mut [u32])
 }
 
 // A message taken into a row, with the choice that each cell was made by. The row is worked out where it stands: a cell is made
-// of the old cells from its own place on, so with x rising every cell is read before it is written. The cells and choices past
+// of the old cells from its own place on, so with x rising no cell is read after it is written. The cells and choices past
 // those that are left stay.
 pub fn combine(row: &mut [u32], msg: &[u32], choice: &mut [u8])
     requires sizes { ⌜ (1 ≤ length (now msg)) × (length (now msg) ≤ 81) × (length (now msg) ≤ length (now row)) × (length (now row) + 1 ≤ length (now choice) + length (now msg)) ⌝ }
