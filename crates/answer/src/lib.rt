@@ -1,6 +1,8 @@
 // The answer's records, written from nets and flows that stand by the positions of a feeder: members in order, links by
 // their lower and then their higher member, and the total. Each writer is lent the part of the answer area that starts at
 // its first byte, and leaves what follows its last one.
+#![tactic(auto)]
+
 ghost use Rattle.std.specs.Prelude.{◌≡◌, List, ◌++◌, ◌*◌, ◌≤◌, length, drop, ℤ};
 ghost use Rattle.std.proofs.Math.Option.{Option};
 ghost use Rattle.problem.specs.Problem.{Market};

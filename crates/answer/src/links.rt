@@ -9,7 +9,7 @@ use network::Feeder;
 use numbers::{Member, Units};
 
 // Two members are the ends of a link, which leads to a position that the lower of them has or the higher; or they are apart.
-#[derive(Drop)]
+#[derive(Clone, Copy)]
 pub enum Joint {
     Over(u8, bool),
     Apart,

@@ -1,6 +1,8 @@
 // Clears the market on standard input and writes its lines to standard output, in one write. What cannot be read or written
 // is said on standard error. Started with an argument, it tells its caller on descriptor 3, last of all, what became of the
 // market: a program here has no exit status of its own.
+#![tactic(auto)]
+
 use libc::{STDERR_FILENO, STDIN_FILENO, STDOUT_FILENO};
 
 const CALLER: i32 = 3;

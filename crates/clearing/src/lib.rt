@@ -1,5 +1,7 @@
 // A market has one answer: the allocation of highest total, by the tie rule among equals, written as records into the
 // answer area; or a refusal, which leaves the area as it was. Nothing is asked of the file or of the area.
+#![tactic(auto)]
+
 ghost use Rattle.std.specs.Prelude.{◌≡◌, ◌*◌, ◌≤◌, length};
 ghost use Rattle.problem.specs.Problem.{Market};
 ghost use Rattle.clearing.specs.Outcome.{code, Outcome};

@@ -11,7 +11,7 @@ use network::Feeder;
 use numbers::Units;
 
 // By position: the choice on its link, and the index that all the choices give it.
-#[derive(Drop)]
+#[derive(Clone, Copy)]
 pub struct Chosen {
     pub choice: [u8; 32],
     pub index: [usize; 32],

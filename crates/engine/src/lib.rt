@@ -1,6 +1,8 @@
 // The best choices on a tree of tables: the cell of the highest total, and what each member buys and sends with it. The
 // tree is one value, a feeder by the positions of its walk; the tables are records. Messages go up the walk, choices come
 // down it. `solve` promises the best total, and the first of the choices that make it.
+#![tactic(auto)]
+
 ghost use Rattle.network.specs.inner.Feeders.{Sound};
 ghost use Rattle.records.specs.Records.{entries};
 ghost use Rattle.records.specs.Market.{offers_of};
@@ -13,7 +15,7 @@ mod downward;
 mod upward;
 
 // By position: what the member there buys, and what its link carries toward member 1. Past the members stands 0.
-#[derive(Drop)]
+#[derive(Clone, Copy)]
 pub struct Solution {
     // the cell of the best total, 0 where there is none
     pub best: u32,

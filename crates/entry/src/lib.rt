@@ -1,4 +1,6 @@
 // What the Rust service calls: the clearing, exported. Its promise is the clearing's own.
+#![tactic(auto)]
+
 ghost use Rattle.clearing.specs.Promise.{Result};
 
 #[unsafe(no_mangle)]

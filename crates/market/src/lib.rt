@@ -1,5 +1,7 @@
 // Everything between the reading of records and the clearing: a file is either refused under 1 to 10, 13 or 14, or it is
 // a market on a tree whose walk is known. Nothing is asked of a file's bytes.
+#![tactic(auto)]
+
 ghost use Rattle.std.specs.Prelude.{◌≡◌, ◌+◌, ◌<◌, ◌≤◌, length};
 ghost use Rattle.std.proofs.Math.Option.{some};
 ghost use Rattle.problem.specs.Problem.{Market};
@@ -23,14 +25,14 @@ mod rings;
 mod tree;
 
 // A place in the file or a member, where a check finds one.
-#[derive(Drop)]
+#[derive(Clone, Copy)]
 enum Place {
     At(u16),
     Nowhere,
 }
 
 // What the checks say, and the market on its tree. Where the verdict is a refusal the feeder has no members.
-#[derive(Drop)]
+#[derive(Clone, Copy)]
 pub struct Checked {
     pub verdict: Verdict,
     pub feeder: Feeder,

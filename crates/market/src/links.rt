@@ -10,14 +10,14 @@ use network::walk::linked;
 use numbers::{Member, Units};
 
 // A link's lower and higher member, and its capacity.
-#[derive(Drop)]
+#[derive(Clone, Copy)]
 pub struct Line {
     pub a: Member,
     pub b: Member,
     pub capacity: Units,
 }
 
-#[derive(Drop)]
+#[derive(Clone, Copy)]
 pub struct Links {
     pub line: [Line; 32],
     pub count: usize,

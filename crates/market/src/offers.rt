@@ -12,7 +12,7 @@ use numbers::Member;
 use records::Reading;
 
 // The highest member number in any record, the number of offers, and how many each member has; member 1 stands first.
-#[derive(Drop)]
+#[derive(Clone, Copy)]
 pub struct Tally {
     pub members: Member,
     pub offers: u16,

@@ -14,7 +14,7 @@ use network::parts::{gathered, holds_both, merged};
 use records::Reading;
 
 // The record of the first link that closes a ring, and the links before it.
-#[derive(Drop)]
+#[derive(Clone, Copy)]
 pub struct Read {
     pub closing: Place,
     pub links: Links,

@@ -1,5 +1,7 @@
 // A feeder's members and links as the code holds them: sets of members as bits, the parts that links join, the walk from
 // member 1, and the tree that it makes. No record is read here.
+#![tactic(auto)]
+
 use numbers::{Member, Units};
 
 pub mod bits;
@@ -8,7 +10,7 @@ pub mod walk;
 
 // A market's tree by the positions of its walk: position 0 is member 1, and position i the i-th member reached. What stands
 // past the members is 0.
-#[derive(Drop)]
+#[derive(Clone, Copy)]
 pub struct Feeder {
     pub members: u8,
     // the member at each position

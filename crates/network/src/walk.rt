@@ -18,7 +18,7 @@ pub fn linked(adj: [u32; 32], a: usize, b: usize) -> [u32; 32]
 }
 
 // The next step of a walk: to a member and from a position.
-#[derive(Drop)]
+#[derive(Clone, Copy)]
 enum Onward {
     To(Member, u8),
     Done,
@@ -47,7 +47,7 @@ fn go_on(adj: [u32; 32], at: [Member; 32], count: usize, reached: u32) -> Onward
 }
 
 // A walk by its positions, and the members that it reached, as bits.
-#[derive(Drop)]
+#[derive(Clone, Copy)]
 pub struct Walked {
     pub member: [Member; 32],
     pub parent: [u8; 32],

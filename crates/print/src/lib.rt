@@ -1,6 +1,8 @@
 // Text and numbers on a page that the caller lends. Each function puts its text on the page from a place on, as far as the
 // page goes, and gives the place after it. One rule: a page whose place reaches its end is full, and what did not fit is
 // lost; so whoever makes a page holds the last place against the page's length, once.
+#![tactic(auto)]
+
 ghost use Rattle.std.specs.Prelude.{◌≡◌, min, pos, nat_abs};
 ghost use Rattle.io.specs.Counts.{IsPrefixLen};
 ghost use Rattle.print.specs.inner.Page.{Put, PutNumber};

@@ -1,5 +1,7 @@
 // A file is records of 8 bytes. Each record is read as exactly one of a link, an offer, the first record of a span's offer or
 // a fault, in place, and one pass over the file gives refusals 1 to 4, 13 and 14. Nothing is asked of a file's bytes.
+#![tactic(auto)]
+
 ghost use Rattle.std.specs.Prelude.{◌≡◌, ◌&&◌, ◌+◌, ◌*◌, ◌≤◌, length};
 ghost use Rattle.records.specs.Records.{four, units_at, names, is_member, is_units, link_of, point_of, span_of, link_at, point_at, begin_at, span_at, entry_at};
 ghost use Rattle.records.specs.Refusals.{unsound};
@@ -12,7 +14,7 @@ pub const FILE_LIMIT: usize = 33016;
 
 // What an offer offers: a price for some units, or for every number of units from a lower to an upper end the slope times it
 // plus a base.
-#[derive(Drop)]
+#[derive(Clone, Copy)]
 pub enum Terms {
     Point(Units, Price),
     Span(Units, Units, Slope, Price),
@@ -20,7 +22,7 @@ pub enum Terms {
 
 // A record as it is read: a link's ends and capacity, an offer's member and terms, the member whose span the next record
 // offers, or the refusal number of a fault. A span is read at the later of its two records; its lower end's range is the earlier one's to check.
-#[derive(Drop)]
+#[derive(Clone, Copy)]
 pub enum Reading {
     Link(Member, Member, Units),
     Offer(Member, Terms),
@@ -29,7 +31,7 @@ pub enum Reading {
 }
 
 // What the checks so far say: nothing against the file, or a refusal's number and place.
-#[derive(Drop)]
+#[derive(Clone, Copy)]
 pub enum Verdict {
     Sound,
     Refused(u8, u16),

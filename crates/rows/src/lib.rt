@@ -1,6 +1,8 @@
 // Rows of cells. A cell is a price or none in one number: 0 is none, and v + 1 is the price v - 1,000,000, so that the
 // higher cell is the better one. A member's table is read from the records as a row, and a message is taken into a row.
 // Prices become cells in `cell_of` and cells become prices in `total_of`, nowhere else.
+#![tactic(auto)]
+
 ghost use Rattle.std.specs.Prelude.{◌≡◌, true, ℕ, ◌+◌, ◌*◌, ◌-◌, ◌^◌, ◌≤◌, ◌<◌, max, leb, ltb, ℤ, pos, neg_ℤ, ◌-ℤ◌, length, get_or};
 ghost use Rattle.std.proofs.Math.Option.{some};
 ghost use Rattle.std.specs.Int.Signed.{le_z};
@@ -36,7 +38,7 @@ pub fn total_of(best: u32, n: u8) -> Price
 }
 
 // A line of prices over each number of units from low to high: slope times units plus base.
-#[derive(Drop)]
+#[derive(Clone, Copy)]
 struct Span {
     low: Units,
     high: Units,
@@ -65,7 +67,7 @@ fn as_span(t: Terms) -> Span
 }
 
 // What a record offers a member.
-#[derive(Drop)]
+#[derive(Clone, Copy)]
 enum Offered {
     Span(Span),
     Nothing,
@@ -119,7 +121,7 @@ fn higher(a: u32, b: u32) -> u32
 }
 
 // The worth of some units to a member: the highest price that its table gives for them, or nothing.
-#[derive(Drop)]
+#[derive(Clone, Copy)]
 pub enum Worth {
     Price(Price),
     Nothing,
@@ -164,7 +166,7 @@ fn place_of(top: Units, u: Units) -> i32
 }
 
 // A cell of a row, and its units.
-#[derive(Drop)]
+#[derive(Clone, Copy)]
 struct Start {
     place: usize,
     units: Units,
@@ -260,7 +262,7 @@ fn sum(a: u32, b: u32) -> u32
     a + b - 1
 }
 
-#[derive(Drop)]
+#[derive(Clone, Copy)]
 struct Found {
     best: u32,
     pick: u8,

@@ -1,11 +1,13 @@
 // A market's answer, or its refusal, as lines on a page that the caller lends.
+#![tactic(auto)]
+
 ghost use Rattle.io.specs.Counts.{IsPrefixLen};
 
 use numbers::{Price, Units};
 use records::{four, two};
 
 // Where the lines of a market end on their page, and whether the market was refused.
-#[derive(Drop)]
+#[derive(Clone, Copy)]
 pub struct Shown {
     pub end: usize,
     pub refused: bool,

@@ -1,4 +1,6 @@
 // What the programs read and write: a file is read until its end is certain, and a page is written whole.
+#![tactic(auto)]
+
 ghost use Rattle.std.specs.Prelude.{◌≡◌, false, ◌≤◌, length};
 ghost use Rattle.libc.specs.Io.{Moved};
 

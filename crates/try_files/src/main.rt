@@ -1,4 +1,6 @@
 // Writes of each file that an argument names the walk of its market, or its refusal under 1 to 10, 13 or 14.
+#![tactic(auto)]
+
 use libc::STDOUT_FILENO;
 use market::Checked;
 use network::Feeder;

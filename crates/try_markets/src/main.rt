@@ -1,4 +1,6 @@
 // Writes of each file that an argument names its name, and then the lines of its clearing.
+#![tactic(auto)]
+
 ghost use Rattle.std.specs.Prelude.{◌≤◌, length};
 
 use libc::STDOUT_FILENO;

@@ -1,4 +1,6 @@
 // Writes each record on standard input as it is read.
+#![tactic(auto)]
+
 use libc::{STDIN_FILENO, STDOUT_FILENO};
 use numbers::{Member, Price, Slope, Units};
 use records::{Reading, Terms};
