@@ -18,7 +18,6 @@ use Rattle.problem.proofs.Count.{same?}
 use Rattle.problem.proofs.Steps.{Hop}
 use Rattle.network.specs.inner.Walks.{free_mask, on_mask, onward_of, WalkOf}
 use Rattle.network.specs.declared.walk.Onward.{Onward}
-use Rattle.network.specs.declared.walk.Onward.TheVariants as Onward
 use Rattle.network.proofs.Order.{hop, on_hit, on_miss, on_lt, Walking, walking_more, walking_done}
 
 -- ---- the search for the next stop, at position k of those below count; f is the mask of what is free there

@@ -11,7 +11,6 @@ use Rattle.problem.proofs.Steps.{Hop, at_pos, reached, or_else, hops}
 use Rattle.problem.proofs.Places.{from_pos}
 use Rattle.network.specs.inner.Sets.{holds}
 use Rattle.network.specs.declared.walk.Onward.{Onward}
-use Rattle.network.specs.declared.walk.Onward.TheVariants as Onward
 
 -- x in the mask at i
 abbrev pub mark : List ℕ → ℕ → ℕ → List ℕ
