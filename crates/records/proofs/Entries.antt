@@ -3,7 +3,7 @@
 use mathlib.Core.Path.{◌≡◌, refl, sym, ap, ◌∙◌}
 use mathlib.Core.Bool.{Bool, true, false, cond, not, ◌&&◌, ◌||◌}
 use mathlib.Core.List.{List, [], ◌∷◌}
-use mathlib.Core.Logic.{◌⊎◌, inl, inr, ⊎_elim}
+use mathlib.Core.Logic.{◌⊎◌, inl, inr}
 use mathlib.Core.Option.{Option, none, some}
 use Prim.Native.Nat.{ℕ, zero, suc, ◌+◌, ◌-◌, ◌/◌, ◌<◌, ◌≤◌}
 use native.Mathlib.Omega.{arith}
@@ -12,8 +12,6 @@ use lib.Dec.{leb, ltb, eqb}
 use lib.ListN.{length}
 use lib.IntN.{ℤ, pos, neg_ℤ, nat_abs, ◌+ℤ◌, ◌*ℤ◌}
 use lib.Signed.{lt_z}
-use types.Run.{OneOf}
-use denote.Enum.Declared.{tag_of}
 use borrow.Author.Tests.{leb-true, ltb-true, ltb-false, not-false}
 use Rattle.numbers.specs.declared.Member.{Member}
 use Rattle.numbers.specs.declared.Units.{Units}
@@ -23,14 +21,11 @@ use Rattle.problem.specs.Problem.{Link, Offer, worth}
 use Rattle.problem.proofs.Prices.{Limited}
 use Rattle.problem.proofs.Spans.{point_limited, span_limited}
 use Rattle.records.specs.declared.Terms.{Terms}
-use Rattle.records.specs.declared.Terms.TheVariants as Terms
 use Rattle.records.specs.declared.Reading.{Reading}
-use Rattle.records.specs.declared.Reading.TheVariants as Reading
 use Rattle.records.specs.Records.{Entry, byte, two, units_at, number_at, is_member, is_units, is_price, fields_fit, link_of, point_of, unfinished, unbegun, bad_span, span_of, link_at, point_at, begin_at, span_at, entry_at, entries_from, entries}
 use Rattle.records.specs.Records.Entry.{link, offer, begins, fault}
 use Rattle.records.specs.Refusals.{Refusal, refusal, ◌otherwise◌, place_if, file_limit, too_long, faulty, unsound}
 use Rattle.records.specs.inner.Cases.{terms_of, terms_in, reading_of}
-use Rattle.records.specs.contracts.Reading.{the_type}
 
 -- ---- the records from i on, of n: record i and those from i + 1 on, or none
 pub rest : (f : List ℕ) (i n : ℕ) → i < n → entries_from f i (n - i) ≡ entry_at f i ∷ entries_from f (i + 1) (n - (i + 1))
@@ -91,47 +86,28 @@ unfolding record_of
 fault_is e k is = record_is e ∙ ap record_of is
 
 -- a reading that is another case is that of another record
-tagged : Entry → ℕ
-tagged (link l) = 0
-tagged (offer o) = 1
-tagged (begins j) = 2
-tagged (fault k) = 3
-
-tag_is : (e : Entry) → tag_of the_type (reading_of e) ≡ tagged e
-unfolding reading_of tagged
-tag_is (link l) = refl
-tag_is (offer o) = refl
-tag_is (begins j) = refl
-tag_is (fault k) = refl
-
 module _ (r : Reading) (e : Entry) (is : r ≡ reading_of e) where
-  tag : tag_of the_type r ≡ tagged e
-  tag = ap (tag_of the_type) is ∙ tag_is e
+  pub not_link : ((a b : Member) (c : Units) → r ≡ Reading.Link a b c → ⊥) → (l : Link) → e ≡ link l → ⊥
+  unfolding reading_of
+  not_link d l h = d _ _ _ (is ∙ ap reading_of h)
 
-  other : (a b c k : ℕ) → (k ≡ a → ⊥) → (k ≡ b → ⊥) → (k ≡ c → ⊥) → OneOf (a ∷ b ∷ c ∷ []) (tag_of the_type r) → tagged e ≡ k → ⊥
-  other a b c k p q s t h = ⊎_elim (λ x. p (omega (arith, x, tag, h))) (λ t. ⊎_elim (λ x. q (omega (arith, x, tag, h))) (λ x. s (omega (arith, x, tag, h))) t) t
+  pub not_offer : ((j : Member) (t : Terms) → r ≡ Reading.Offer j t → ⊥) → (o : Offer) → e ≡ offer o → ⊥
+  unfolding reading_of
+  not_offer d o h = d _ _ (is ∙ ap reading_of h)
 
-  pub not_link : OneOf (1 ∷ 2 ∷ 3 ∷ []) (tag_of the_type r) → (l : Link) → e ≡ link l → ⊥
-  unfolding tagged
-  not_link t l h = other 1 2 3 0 (λ s. omega arith) (λ s. omega arith) (λ s. omega arith) t (ap tagged h)
-
-  pub not_offer : OneOf (0 ∷ 2 ∷ 3 ∷ []) (tag_of the_type r) → (o : Offer) → e ≡ offer o → ⊥
-  unfolding tagged
-  not_offer t o h = other 0 2 3 1 (λ s. omega arith) (λ s. omega arith) (λ s. omega arith) t (ap tagged h)
-
-  pub not_fault : OneOf (0 ∷ 1 ∷ 2 ∷ []) (tag_of the_type r) → (k : ℕ) → e ≡ fault k → ⊥
-  unfolding tagged
-  not_fault t k h = other 0 1 2 3 (λ s. omega arith) (λ s. omega arith) (λ s. omega arith) t (ap tagged h)
+  pub not_fault : ((k : ℕ) → r ≡ Reading.Fault k → ⊥) → (k : ℕ) → e ≡ fault k → ⊥
+  unfolding reading_of
+  not_fault d k h = d _ (is ∙ ap reading_of h)
 
 -- a record of kind 6 is no offer
 begin_other : (f : List ℕ) (i : ℕ) (o : Offer) → begin_at f i ≡ offer o → ⊥
-unfolding begin_at tagged
+unfolding begin_at
 begin_other f i o = go (fields_fit f i) (unfinished f i)
   where
     go : (a b : Bool) → cond a (cond b (fault 13) (begins (byte f i 1))) (fault 4) ≡ offer o → ⊥
-    go true true e = let z : ◌≡◌ {A = ℕ} 3 1 = ap tagged e in omega arith
-    go true false e = let z : ◌≡◌ {A = ℕ} 2 1 = ap tagged e in omega arith
-    go false b e = let z : ◌≡◌ {A = ℕ} 3 1 = ap tagged e in omega arith
+    go true true e = cc
+    go true false e = cc
+    go false b e = cc
 
 pub kind_6 : (f : List ℕ) (i : ℕ) → byte f i 0 ≡ 6 → (o : Offer) → entry_at f i ≡ offer o → ⊥
 unfolding entry_at
@@ -293,8 +269,8 @@ module _ (f : List ℕ) (i n : ℕ) where
     unfolding faulty
     fault_here k e = rw (rest f i n h, fault_is (entry_at f i) k (sym is ∙ e))
 
-    pub no_fault_here : OneOf (0 ∷ 1 ∷ 2 ∷ []) (tag_of the_type r) → faulty i (entries_from f i (n - i)) ≡ faulty (i + 1) (entries_from f (i + 1) (n - (i + 1)))
-    no_fault_here t = rw (rest f i n h) (faulty_on i (entry_at f i) _ (not_fault r (entry_at f i) is t))
+    pub no_fault_here : ((k : ℕ) → r ≡ Reading.Fault k → ⊥) → faulty i (entries_from f i (n - i)) ≡ faulty (i + 1) (entries_from f (i + 1) (n - (i + 1)))
+    no_fault_here d = rw (rest f i n h) (faulty_on i (entry_at f i) _ (not_fault r (entry_at f i) is d))
 
 -- ---- a sound file is short
 

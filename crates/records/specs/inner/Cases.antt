@@ -4,11 +4,8 @@ use Rattle.std.specs.Prelude.{pos}
 use Rattle.numbers.specs.inner.Held.{member, units, price, slope}
 use Rattle.problem.specs.Problem as P
 use Rattle.records.specs.declared.Terms.{Terms}
-use Rattle.records.specs.declared.Terms.TheVariants as Terms
 use Rattle.records.specs.declared.Reading.{Reading}
-use Rattle.records.specs.declared.Reading.TheVariants as Reading
 use Rattle.records.specs.declared.Verdict.{Verdict}
-use Rattle.records.specs.declared.Verdict.TheVariants as Verdict
 use Rattle.records.specs.Records.{Entry}
 use Rattle.records.specs.Records.Entry.{link, offer, begins, fault}
 use Rattle.records.specs.Refusals.{Refusal}
