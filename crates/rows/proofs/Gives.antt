@@ -117,7 +117,7 @@ module _ (f : List ℕ) (i : ℕ) where
   a_beginning e j x = not_offered j x (entry_at f i) (kind_6 f i e)
 
   module _ (r : Reading) (is : r ≡ reading_of (entry_at f i)) where
-    pub no_offer_lem : OneOf (0 ∷ 2 ∷ 3 ∷ []) (tag_of the_type r) → (j : ℕ) (x : ℤ) → given f i j x ≡ 0
+    pub no_offer_lem : ((m : Member) (t : Terms) → r ≡ Reading.Offer m t → ⊥) → (j : ℕ) (x : ℤ) → given f i j x ≡ 0
     unfolding given
     no_offer_lem t j x = not_offered j x (entry_at f i) (not_offer r (entry_at f i) is t)
 

@@ -1,0 +1,20 @@
+-- `combine` meets its contract. The loop's invariant: the cells and choices below x are new, made of the old row; those from x
+-- on are as they were, and of the row these are all that cell x needs. Assumes nothing.
+use native.Mathlib.Omega.{arith}
+use mathlib.Core.Path.{◌∙◌}
+use Prim.Native.Nat.{◌≤◌, ◌-◌}
+use lib.ListN.{length}
+use Rattle.problem.proofs.Max.{max_to, argmax, max_to_ext, argmax_ext}
+use Rattle.rows.specs.inner.Rows.{meets}
+use Rattle.rows.proofs.Turns.{Made, none_made, one_made, made_meets}
+use Rattle.rows.proofs.combine.Goals as goal
+
+pub loop-x-preserved : goal.loop-x-preserved
+loop-x-preserved c =
+    let a = c.args in
+    let i = c.loop-x.invariant in
+    let m = made_meets i.1 a.msg.now in (
+      omega arith,
+      one_made i.1 (omega arith) (c.cell-c.ensures.0 ∙ max_to_ext _ _ _ (λ p _. m p)),
+      one_made i.2 (omega arith) (c.cell-c.ensures.1 ∙ argmax_ext _ _ _ (λ p _. m p)),
+    )

@@ -1,0 +1,21 @@
+-- `value_of` meets its contract. The loop's invariant: the whole table's cell is the higher of the best so far and what the
+-- records from i on give. Assumes nothing.
+use mathlib.Core.Path.{◌≡◌, refl, sym, ap, ◌∙◌}
+use Prim.Native.Nat.{ℕ, ◌≤◌, ◌-◌, ◌/◌, max}
+use native.Mathlib.Omega.{arith}
+use lib.IntN.{pos, ◌-ℤ◌}
+use lib.ListN.{length}
+use borrow.Author.Rules.{rules}
+use Rattle.problem.specs.Problem.{value}
+use Rattle.problem.proofs.Prices.{cell_of}
+use Rattle.records.specs.Records.{entries}
+use Rattle.records.specs.Market.{offers_of}
+use Rattle.rows.proofs.Prices.{none_back, price_back}
+use Rattle.rows.proofs.Gives.{left, left_all, left_none, left_more, value_limited, cell_bound}
+use Rattle.rows.proofs.value_of.Given as goal
+
+abbrev pub invariant-loop-i : goal.invariant-loop-i
+invariant-loop-i l = (l.n ≡ length l.records / 8) × (l.i ≤ l.n) × (cell_of 1000000 (value (offers_of (entries l.records)) l.j.0 l.x.0) ≡ max l.best (left l.records l.n l.j.0 l.x.0 l.i))
+
+abbrev pub decreases-loop-i : goal.decreases-loop-i
+decreases-loop-i l = l.n - l.i
