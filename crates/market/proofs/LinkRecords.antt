@@ -45,7 +45,7 @@ unfolding links_of
 links_none f i n h = ap links_of (ended f i n h)
 
 module _ (f : List ℕ) (i n : ℕ) (r : Reading) (h : i < n) (is : r ≡ reading_of (entry_at f i)) where
-  pub links_skip : OneOf (1 ∷ 2 ∷ 3 ∷ []) (tag_of the_type r) → links_of (entries_from f i (n - i)) ≡ links_of (entries_from f (i + 1) (n - (i + 1)))
+  pub links_skip : ((a b : Member) (c : Units) → r ≡ Reading.Link a b c → ⊥) → links_of (entries_from f i (n - i)) ≡ links_of (entries_from f (i + 1) (n - (i + 1)))
   links_skip t = ap links_of (rest f i n h) ∙ links_other (entry_at f i) (entries_from f (i + 1) (n - (i + 1))) (not_link r (entry_at f i) is t)
 
   module _ (a b : Member) (c : Units) (e : r ≡ Reading.Link a b c) where

@@ -83,7 +83,7 @@ other_closes es (offer o) h = refl
 other_closes es (begins j) h = refl
 other_closes es (fault k) h = refl
 
-pub pass_skip : (f ms : List ℕ) (s : Links) (n i : ℕ) (r : Reading) → i < n → r ≡ reading_of (entry_at f i) → OneOf (1 ∷ 2 ∷ 3 ∷ []) (tag_of the_type r) → Pass f ms s n i → Pass f ms s n (i + 1)
+pub pass_skip : (f ms : List ℕ) (s : Links) (n i : ℕ) (r : Reading) → i < n → r ≡ reading_of (entry_at f i) → ((a b : Member) (c : Units) → r ≡ Reading.Link a b c → ⊥) → Pass f ms s n i → Pass f ms s n (i + 1)
 unfolding earlier
 pass_skip f ms s n i r h is t P =
     let d = not_link r (entry_at f i) is t in

@@ -49,10 +49,10 @@ verdict_some (some r) v k p is e =
     let t : r.place ≡ p = cc (sym is ∙ e) in
     ap₂ {C = Option Refusal} (λ (x y : ℕ). some (record { number = x; place = y })) s t
 
-pub verdict_none : (o : Option Refusal) (v : Verdict) → v ≡ verdict_of o → OneOf (0 ∷ []) (tag_of the_type v) → o ≡ none
+pub verdict_none : (o : Option Refusal) (v : Verdict) → v ≡ verdict_of o → ((k p : ℕ) → v ≡ Verdict.Refused k p → ⊥) → o ≡ none
 unfolding verdict_of
 verdict_none none v is t = refl
-verdict_none (some r) v is t = absurd (omega (arith, t, ap (tag_of the_type) is))
+verdict_none (some r) v is t = absurd (t r.number r.place is)
 
 -- ---- the first that applies: a check decides, or leaves it to the rest
 
