@@ -1,6 +1,6 @@
 -- A span's two records, each by the tests of its reading in their order. Assumes nothing.
-use mathlib.Core.Path.{◌≡◌, refl, sym}
-use mathlib.Core.Bool.{Bool, true, false, not, ◌&&◌}
+use mathlib.Core.Path.{◌≡◌, refl}
+use mathlib.Core.Bool.{Bool, true, false, not}
 use mathlib.Core.List.{List}
 use Prim.Native.Nat.{ℕ, zero, suc, ◌+◌, ◌-◌, ◌/◌, ◌≤◌, ◌<◌}
 use native.Mathlib.Omega.{arith}
@@ -10,15 +10,11 @@ use lib.ListN.{length}
 use lib.Signed.{lt_z}
 use borrow.Author.Tests.{lt-ltb, le-ltb}
 use Rattle.problem.specs.Problem.{Terms}
-use Rattle.records.specs.Records.{byte, units_at, number_at, is_member, is_units, is_price, names, fields_fit, unfinished, unbegun, bad_span, begin_at, span_of, span_at}
+use Rattle.records.specs.Records.{byte, units_at, number_at, is_price, names, fields_fit, unfinished, unbegun, bad_span, begin_at, span_of, span_at}
 use Rattle.records.specs.Records.Entry.{offer, begins, fault}
 
 -- ---- record i, of kind 6 or 7
 module _ (f : List ℕ) (i : ℕ) where
-  -- the test of its member and of its units, where they are read first
-  pub fields_here : (x : ℤ) (t : Bool) → x ≡ units_at f i → t ≡ (is_member (byte f i 1) && is_units x) → fields_fit f i ≡ t
-  fields_here x t u e = rw (← u) (sym e)
-
   module _ (h : fields_fit f i ≡ false) where
     pub begin_field : begin_at f i ≡ fault 4
     unfolding begin_at

@@ -52,6 +52,7 @@ pub fn four(a: u8, b: u8, c: u8, d: u8) -> u32
 }
 
 // A record of kind 1, from its other bytes.
+#[tactic(auto, unfolding(crate::specs::Records::link_of, crate::specs::inner::Cases::reading_of))]
 fn link_of(a: u8, b: u8, z: u8, c: u16, y: u8, x: u8) -> Reading
     ensures { result ≡ reading_of (link_of a b z c y x) }
 {
@@ -80,6 +81,7 @@ fn link_of(a: u8, b: u8, z: u8, c: u16, y: u8, x: u8) -> Reading
 }
 
 // A record of kind 2, from its fields.
+#[tactic(auto, unfolding(crate::specs::Records::point_of, crate::specs::inner::Cases::terms_of, crate::specs::inner::Cases::reading_of))]
 fn point_of(j: u8, units: Units, price: Price) -> Reading
     ensures { result ≡ reading_of (point_of j units.0 price.0) }
 {
@@ -93,6 +95,7 @@ fn point_of(j: u8, units: Units, price: Price) -> Reading
 }
 
 // A span of a member, from its four numbers.
+#[tactic(auto, unfolding(crate::specs::Records::bad_span, crate::specs::Records::span_of, crate::specs::inner::Cases::terms_of, crate::specs::inner::Cases::reading_of))]
 fn span_of(j: u8, low: Units, high: Units, slope: Slope, base: Price) -> Reading
     ensures { result ≡ reading_of (span_of j low.0 high.0 slope.0 base.0) }
 {
@@ -154,6 +157,7 @@ fn names(file: &[u8], i: usize, kind: u8, j: u8) -> bool
 }
 
 // Record i, of kind 1.
+#[tactic(auto, unfolding(crate::specs::Records::link_at))]
 fn link_at(file: &[u8], i: usize) -> Reading
     requires { 8 * i + 8 ≤ length file.now }
     ensures { result ≡ reading_of (link_at file.now i) }
@@ -171,6 +175,7 @@ fn link_at(file: &[u8], i: usize) -> Reading
 }
 
 // Record i, of kind 2.
+#[tactic(auto, unfolding(crate::specs::Records::point_at))]
 fn point_at(file: &[u8], i: usize) -> Reading
     requires { 8 * i + 8 ≤ length file.now }
     ensures { result ≡ reading_of (point_at file.now i) }
@@ -181,6 +186,7 @@ fn point_at(file: &[u8], i: usize) -> Reading
 }
 
 // Record i, of kind 6: a span whose other record must follow.
+#[tactic(auto, unfolding(crate::specs::Records::unfinished, crate::specs::Records::begin_at, crate::specs::inner::Cases::reading_of))]
 fn begin_at(file: &[u8], i: usize) -> Reading
     requires { 8 * i + 8 ≤ length file.now }
     ensures { result ≡ reading_of (begin_at file.now i) }
@@ -200,6 +206,7 @@ fn begin_at(file: &[u8], i: usize) -> Reading
 }
 
 // Record i, of kind 7: the span that the record before it begins.
+#[tactic(auto, unfolding(crate::specs::Records::unbegun, crate::specs::Records::span_at, crate::specs::inner::Cases::reading_of))]
 fn span_at(file: &[u8], i: usize) -> Reading
     requires { 8 * i + 8 ≤ length file.now }
     ensures { result ≡ reading_of (span_at file.now i) }
@@ -223,6 +230,7 @@ fn span_at(file: &[u8], i: usize) -> Reading
 }
 
 // Record i of the file, kind before fields.
+#[tactic(auto, unfolding(crate::specs::Records::entry_at, crate::specs::inner::Cases::reading_of))]
 pub fn read_at(file: &[u8], i: usize) -> Reading
     requires { 8 * i + 8 ≤ length file.now }
     ensures { result ≡ reading_of (entry_at file.now i) }
