@@ -1,0 +1,18 @@
+-- `choose` meets its contract. The loop's invariant: the choices before i are read, and the indices are those after them.
+use borrow.Author.Rules.{rules}
+use native.Mathlib.Omega.{arith}
+use mathlib.Core.Path.{◌≡◌}
+use Prim.Native.Nat.{ℕ, ◌+◌, ◌-◌, ◌≤◌, ◌<◌}
+use lib.ListN.{get_or}
+use Rattle.network.specs.inner.Feeders.{toward_at, away_at}
+use Rattle.engine.specs.inner.Words.{walk_of, Kept}
+use Rattle.engine.proofs.Shape.{shape}
+use Rattle.engine.proofs.Falls.{Falling, fall_start, fall_end, fall_fits, fall_turn}
+use Rattle.engine.proofs.downward.choose.Given as goal
+
+abbrev pub invariant-loop-i : goal.invariant-loop-i
+invariant-loop-i l = (1 ≤ l.i) × (l.i ≤ l.n) × (l.n ≡ l.feeder.members)
+    × ((own : ℕ → ℕ → ℕ) → Kept (walk_of l.feeder own) l.feeder.members l.choices 0 0 → Falling (walk_of l.feeder own) l.feeder.members l.choice l.index l.i)
+
+abbrev pub decreases-loop-i : goal.decreases-loop-i
+decreases-loop-i l = l.n - l.i

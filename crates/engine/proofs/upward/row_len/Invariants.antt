@@ -1,0 +1,16 @@
+-- `row_len` meets its contract. The loop's invariant: the length is that of the row that the positions below k have been joined on to.
+use borrow.Author.Rules.{rules}
+use native.Mathlib.Omega.{arith}
+use mathlib.Core.Path.{◌≡◌, sym, ap, ◌∙◌}
+use mathlib.Core.Logic.{⊎_elim}
+use Prim.Native.Nat.{ℕ, ◌<◌, ◌≤◌, ◌+◌, ◌-◌}
+use Rattle.problem.proofs.Reach.{reach}
+use Rattle.engine.specs.inner.Words.{walk_of}
+use Rattle.engine.proofs.Shape.{shape, far, reach_first, reach_kid, reach_not}
+use Rattle.engine.proofs.upward.row_len.Given as goal
+
+abbrev pub invariant-loop-k : goal.invariant-loop-k
+invariant-loop-k l = (l.v < l.k) × (l.k ≤ l.n) × (l.n ≡ l.feeder.members) × ((own : ℕ → ℕ → ℕ) → l.len ≡ 1 + reach (walk_of l.feeder own) l.k l.v)
+
+abbrev pub decreases-loop-k : goal.decreases-loop-k
+decreases-loop-k l = l.n - l.k
