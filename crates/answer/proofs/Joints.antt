@@ -40,13 +40,13 @@ module _ (parent position : List ℕ) (a b : ℕ) where
       not_reached k = rw (t, ne_eqb (get_or parent (position_in position b) 0) (position_in position a) h, ne_eqb (get_or parent (position_in position a) 0) (position_in position b) k)
 
 -- ---- its record
-none_written : (f : Feeder) (sent : List Units) (a b : ℕ) (j : Joint) → OneOf (1 ∷ []) (tag_of the_type j) → joint_bytes f sent a b j ≡ []
+none_written : (f : Feeder) (sent : List Units) (a b : ℕ) (j : Joint) → ((i : ℕ) (lower : Bool) → j ≡ Joint.Over i lower → ⊥) → joint_bytes f sent a b j ≡ []
 unfolding joint_bytes
-none_written f sent a b (Joint.Over i lower) t = absurd (omega arith)
+none_written f sent a b (Joint.Over i lower) t = absurd (t i lower refl)
 none_written f sent a b Joint.Apart t = refl
 
 module _ (f : Feeder) (position : List ℕ) (sent : List Units) (a b : ℕ) {r : Joint} (is : r ≡ joint_of f.parent position a b) where
-  pub no_record : OneOf (1 ∷ []) (tag_of the_type r) → link_by f position sent a b ≡ []
+  pub no_record : ((i : ℕ) (lower : Bool) → r ≡ Joint.Over i lower → ⊥) → link_by f position sent a b ≡ []
   unfolding link_by
   no_record t = ap (joint_bytes f sent a b) (sym is) ∙ none_written f sent a b r t
 

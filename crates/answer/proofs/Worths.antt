@@ -18,7 +18,7 @@ unfolding worth_of or_zero
 price_is w p none e h = cc (sym e ∙ h)
 price_is w p (some z) e h = cc (sym e ∙ h)
 
-pub nothing_is : (w : Worth) (v : Option ℤ) → OneOf (1 ∷ []) (tag_of the_type w) → w ≡ worth_of v → pos 0 ≡ or_zero v
+pub nothing_is : (w : Worth) (v : Option ℤ) → w ≡ Worth.Nothing → w ≡ worth_of v → pos 0 ≡ or_zero v
 unfolding worth_of or_zero
 nothing_is w none t h = refl
-nothing_is w (some z) t h = absurd (omega (arith, t, ap (tag_of the_type) h))
+nothing_is w (some z) t h = cc (sym t ∙ h)
