@@ -1,13 +1,10 @@
 -- The link between two members: where it is found, and its record. Assumes nothing.
 use mathlib.Core.Path.{◌≡◌, refl, sym, ap, ◌∙◌, subst}
 use mathlib.Core.Bool.{Bool, true, false, cond}
-use mathlib.Core.List.{List, [], ◌∷◌}
+use mathlib.Core.List.{List, []}
 use Prim.Native.Nat.{ℕ, ◌-◌, ◌<◌}
-use native.Mathlib.Omega.{arith}
 use lib.Dec.{eqb, ltb}
 use lib.ListN.{get_or}
-use types.Run.{OneOf}
-use denote.Enum.Declared.{tag_of}
 use borrow.Author.Tests.{eq-eqb, ne_eqb}
 use Rattle.numbers.specs.inner.Held.{units_in}
 use Rattle.numbers.specs.declared.Units.{Units}
@@ -16,8 +13,6 @@ use Rattle.network.specs.inner.Feeders.{toward_at}
 use Rattle.records.specs.Answer.{link_record}
 use Rattle.answer.specs.inner.Words.{position_in, joint_of, from_lower, joint_bytes, link_by}
 use Rattle.answer.specs.declared.links.Joint.{Joint}
-use Rattle.answer.specs.declared.links.Joint.TheVariants as Joint
-use Rattle.answer.specs.contracts.links.Joint.{the_type}
 
 -- ---- where it is found
 module _ (parent position : List ℕ) (a b : ℕ) where

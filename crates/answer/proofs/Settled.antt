@@ -8,7 +8,7 @@ use native.Mathlib.Omega.{arith}
 use lib.Dec.{eqb, ltb}
 use lib.ListN.{length, get_or}
 use lib.IntN.{ℤ, nat_abs, neg_ℤ-neg_ℤ}
-use borrow.Author.Tests.{eq-eqb, ne_eqb, ltb-true, ltb-false, le-ltb}
+use borrow.Author.Tests.{eq-eqb, ltb-true, ltb-false, le-ltb}
 use Rattle.numbers.specs.inner.Held.{units_in}
 use Rattle.numbers.specs.declared.Units.{Units}
 use Rattle.numbers.proofs.Tests.{and_both}

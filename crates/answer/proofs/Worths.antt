@@ -1,17 +1,11 @@
 -- The price that stands for a value. Assumes nothing.
-use mathlib.Core.Path.{◌≡◌, refl, sym, ap, ◌∙◌}
-use mathlib.Core.List.{[], ◌∷◌}
+use mathlib.Core.Path.{◌≡◌, refl, sym, ◌∙◌}
 use mathlib.Core.Option.{Option, none, some}
-use native.Mathlib.Omega.{arith}
 use lib.IntN.{ℤ, pos}
-use types.Run.{OneOf}
-use denote.Enum.Declared.{tag_of}
 use Rattle.numbers.specs.declared.Price.{Price}
 use Rattle.records.specs.Answer.{or_zero}
 use Rattle.rows.specs.inner.Rows.{worth_of}
 use Rattle.rows.specs.declared.Worth.{Worth}
-use Rattle.rows.specs.declared.Worth.TheVariants as Worth
-use Rattle.rows.specs.contracts.Worth.{the_type}
 
 pub price_is : (w : Worth) (p : Price) (v : Option ℤ) → w ≡ Worth.Price p → w ≡ worth_of v → p.0 ≡ or_zero v
 unfolding worth_of or_zero

@@ -7,19 +7,15 @@ use native.Mathlib.Nat.{le_refl, sub-zero}
 use native.Mathlib.Omega.{arith}
 use lib.ListN.{length}
 use lib.IntN.{nat_abs}
-use types.Run.{OneOf}
-use denote.Enum.Declared.{tag_of}
 use Rattle.numbers.specs.declared.Member.{Member}
 use Rattle.numbers.specs.declared.Units.{Units}
 use Rattle.problem.specs.Problem.{Link, joins}
 use Rattle.problem.proofs.Tree.{Within}
 use Rattle.records.specs.declared.Reading.{Reading}
-use Rattle.records.specs.declared.Reading.TheVariants as Reading
 use Rattle.records.specs.Records.{Entry, entry_at, entries_from, entries}
 use Rattle.records.specs.Records.Entry.{link, offer, begins, fault}
 use Rattle.records.specs.Market.{members_of, links_of}
 use Rattle.records.specs.inner.Cases.{reading_of}
-use Rattle.records.specs.contracts.Reading.{the_type}
 use Rattle.records.proofs.Entries.{rest, ended, link_is, not_link, LinkFits, Fits, entry_fits, by_record}
 use Rattle.market.specs.inner.Feeders.{capacity_of}
 

@@ -8,8 +8,6 @@ use Prim.Native.Nat.{ℕ, zero, suc, ◌+◌, ◌-◌, ◌/◌, ◌≤◌, ◌<�
 use native.Mathlib.Numerals.{add-one}
 use native.Mathlib.Omega.{arith}
 use lib.ListN.{length, get_or}
-use types.Run.{OneOf}
-use denote.Enum.Declared.{tag_of}
 use Rattle.numbers.specs.declared.Member.{Member}
 use Rattle.numbers.specs.declared.Units.{Units}
 use Rattle.numbers.proofs.Tests.{and_true}
@@ -21,12 +19,10 @@ use Rattle.network.specs.inner.Sets.{holds}
 use Rattle.network.specs.inner.Parts.{gather, Merged}
 use Rattle.network.proofs.Merges.{Ringless, few, Keeps, keeps_none, keeps_more, closing, not_closing}
 use Rattle.records.specs.declared.Reading.{Reading}
-use Rattle.records.specs.declared.Reading.TheVariants as Reading
 use Rattle.records.specs.Records.{Entry, entry_at, entries_from, entries}
 use Rattle.records.specs.Records.Entry.{link, offer, begins, fault}
 use Rattle.records.specs.inner.Cases.{reading_of}
 use Rattle.records.specs.Market.{links_of}
-use Rattle.records.specs.contracts.Reading.{the_type}
 use Rattle.records.proofs.Entries.{link_units, not_link, LinkFits, Fits, entry_fits}
 use Rattle.market.specs.Refusals.{first_record, closes}
 use Rattle.market.specs.declared.links.Links.{Links}

@@ -1,14 +1,12 @@
 -- The order of checking: what each check's answer makes of the file's refusal. Assumes nothing.
 use mathlib.Core.Path.{◌≡◌, refl, sym, ap, ap₂, ◌∙◌}
 use mathlib.Core.Bool.{Bool, true, false}
-use mathlib.Core.List.{List, [], ◌∷◌}
+use mathlib.Core.List.{List, ◌∷◌}
 use mathlib.Core.Option.{Option, none, some}
 use Prim.Native.Nat.{ℕ, ◌≤◌}
 use native.Mathlib.Omega.{arith}
 use lib.Dec.{eqb}
 use lib.ListN.{length}
-use types.Run.{OneOf}
-use denote.Enum.Declared.{tag_of}
 use borrow.Author.Tests.{eq-eqb, ne_eqb}
 use Rattle.numbers.proofs.Tests.{true_false}
 use Rattle.problem.specs.Problem.{Link, Offer, Market, walk}
@@ -18,12 +16,9 @@ use Rattle.records.specs.Refusals.{Refusal, refusal, ◌otherwise◌, place_if, 
 use Rattle.records.specs.Market.{members_of, links_of, offers_of, market_of}
 use Rattle.records.specs.inner.Cases.{verdict_of}
 use Rattle.records.specs.declared.Verdict.{Verdict}
-use Rattle.records.specs.declared.Verdict.TheVariants as Verdict
-use Rattle.records.specs.contracts.Verdict.{the_type}
 use Rattle.records.proofs.Entries.{Fits, by_record}
 use Rattle.market.specs.declared.Checked.{Checked}
 use Rattle.market.specs.declared.Place.{Place}
-use Rattle.market.specs.declared.Place.TheVariants as Place
 use Rattle.market.specs.Refusals.{no_offer, apart, from10, from5, file_refusal}
 use Rattle.market.specs.inner.Cases.{nowhere, place_of}
 use Rattle.market.specs.inner.Feeders.{feeder_of, checked, checked_of}

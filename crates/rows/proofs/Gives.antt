@@ -21,16 +21,13 @@ use Rattle.problem.proofs.Prices.{cell_of, Low, Limited, limited_low, Worths, Pr
 use Rattle.problem.proofs.Values.{own_offered, other_offered, higher_none}
 use Rattle.records.specs.declared.Terms.{Terms}
 use Rattle.records.specs.declared.Reading.{Reading}
-use Rattle.records.specs.declared.Reading.TheVariants as Reading
 use Rattle.records.specs.Records.{Entry, byte, entry_at, entries_from, entries}
 use Rattle.records.specs.Records.Entry.{link, offer, begins, fault}
 use Rattle.records.specs.inner.Cases.{terms_in, reading_of}
 use Rattle.records.specs.Market.{offers_of}
-use Rattle.records.specs.contracts.Reading.{the_type}
 use Rattle.records.proofs.Entries.{rest, ended, offer_is, not_offer, kind_6, Fits, MemberIs, Known, entry_known, by_record}
 use Rattle.rows.specs.declared.Span.{Span}
 use Rattle.rows.specs.declared.Offered.{Offered}
-use Rattle.rows.specs.declared.Offered.TheVariants as Offered
 use Rattle.rows.specs.inner.Rows.{given, spanned, cell_in, Ranged, Offers}
 use Rattle.rows.specs.contracts.Offered as Shape
 use Rattle.rows.proofs.Prices.{cell_higher, cell_top}

@@ -16,7 +16,6 @@ use Rattle.problem.specs.Problem.{higher}
 use Rattle.problem.proofs.Choices.{apart}
 use Rattle.problem.proofs.Prices.{cell_of, Limited}
 use Rattle.rows.specs.declared.Worth.{Worth}
-use Rattle.rows.specs.declared.Worth.TheVariants as Worth
 use Rattle.rows.specs.inner.Rows.{worth_of}
 
 -- ---- cells keep the order of prices

@@ -1,5 +1,4 @@
 -- `price_of` meets its contract.
-use borrow.Author.Rules.{rules}
 use Rattle.answer.proofs.Worths.{price_is, nothing_is}
 use Rattle.answer.proofs.price_of.Goals as goal
 

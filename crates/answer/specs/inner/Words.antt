@@ -12,7 +12,6 @@ use Rattle.records.specs.Records.{entries}
 use Rattle.records.specs.Market.{offers_of}
 use Rattle.records.specs.Answer.{or_zero, each, member_bytes, link_record}
 use Rattle.answer.specs.declared.links.Joint.{Joint}
-use Rattle.answer.specs.declared.links.Joint.TheVariants as Joint
 
 -- the nets and the flows ys of the market m, whose feeder is f and whose tables stand in the records `records`
 pub record Settles (m : Market) (ys : List ℤ) (records : List ℕ) (f : Feeder) (net sent : List Units) : Type 0 where

@@ -1,5 +1,4 @@
 -- `allocate` meets its contract: what the engine leaves of the market is its outcome.
-use borrow.Author.Rules.{rules}
 use mathlib.Core.Path.{sym, subst}
 use Prim.Native.Nat.{ℕ}
 use native.Mathlib.Omega.{arith}

@@ -1,5 +1,4 @@
 -- `clear` meets its contract: refusals 1 to 11, 13 and 14 leave the area as it was, and a sound file is a market that has its outcome.
-use borrow.Author.Rules.{rules}
 use mathlib.Core.Path.{◌≡◌, sym, ap, ◌∙◌, subst}
 use mathlib.Core.List.{List}
 use mathlib.Core.Option.{none}

@@ -1,5 +1,4 @@
 -- `refusal` meets its contract. Assumes nothing.
-use borrow.Author.Rules.{rules}
 use mathlib.Core.Path.{refl}
 use Rattle.clearing.specs.Outcome.{code}
 use Rattle.clearing.proofs.refusal.Goals as goal

@@ -1,8 +1,4 @@
 -- `solve` meets its contract: the root's message is the best total, and the choices that are read make the nets and what is sent.
-use borrow.Author.Rules.{rules}
-use Rattle.records.specs.Records.{entries}
-use Rattle.records.specs.Market.{offers_of}
-use Rattle.engine.specs.inner.Words.{walk_of, own_of, Settled}
 use Rattle.engine.proofs.Passes.{solved}
 use Rattle.engine.proofs.solve.Goals as goal
 

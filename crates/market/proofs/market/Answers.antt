@@ -2,7 +2,6 @@
 use mathlib.Core.Path.{◌∙◌}
 use Rattle.records.proofs.Entries.{sound_short}
 use Rattle.market.proofs.Verdicts.{verdict_none, read_fault, read_sound}
-use borrow.Author.Rules.{rules}
 use Rattle.market.proofs.market.Goals as goal
 
 pub returns-in-Refused : goal.returns-in-Refused

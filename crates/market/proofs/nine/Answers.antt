@@ -6,7 +6,6 @@ use Rattle.market.proofs.Top.{members_few}
 use Rattle.market.proofs.LinkRecords.{links_within}
 use Rattle.market.proofs.Ringless.{ringless}
 use Rattle.market.proofs.Verdicts.{place_none, found, not_found, only_10}
-use borrow.Author.Rules.{rules}
 use native.Mathlib.Omega.{arith}
 use Rattle.market.proofs.nine.Goals as goal
 

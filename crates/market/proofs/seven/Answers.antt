@@ -2,7 +2,6 @@
 use Rattle.market.proofs.Top.{members_few}
 use Rattle.market.proofs.Tables.{too_many_is}
 use Rattle.market.proofs.Verdicts.{found, not_found}
-use borrow.Author.Rules.{rules}
 use native.Mathlib.Omega.{arith}
 use Rattle.market.proofs.seven.Goals as goal
 

@@ -2,7 +2,6 @@
 use Rattle.std.proofs.Math.Option.{Option, none, some}
 use Rattle.std.specs.Prelude.{ℕ}
 use Rattle.market.specs.declared.Place.{Place}
-use Rattle.market.specs.declared.Place.TheVariants as Place
 
 abbrev pub nowhere : Place
 nowhere = Place.Nowhere

@@ -2,7 +2,6 @@
 use mathlib.Core.Path.{refl}
 use Rattle.records.specs.inner.Cases.{terms_in}
 use Rattle.rows.proofs.Gives.{point_spanned}
-use borrow.Author.Rules.{rules}
 use Rattle.rows.proofs.as_span.Goals as goal
 
 pub returns-in-Point : goal.returns-in-Point

@@ -1,13 +1,9 @@
 -- `cell` meets its contract. The loop's invariant: best and pick are the best of the places up to p and the first that has it.
 -- Assumes nothing.
-use native.Mathlib.Omega.{arith}
-use mathlib.Core.Path.{◌≡◌, refl, ap, ◌∙◌}
-use Prim.Native.Nat.{ℕ, ◌≤◌, ◌+◌, ◌-◌}
-use lib.ListN.{length, get_or}
-use Rattle.problem.proofs.Cell.{◌⊕◌}
+use mathlib.Core.Path.{◌≡◌}
+use Prim.Native.Nat.{◌≤◌, ◌-◌}
 use Rattle.problem.proofs.Max.{max_to, argmax}
 use Rattle.rows.specs.inner.Rows.{meets}
-use Rattle.rows.proofs.Turns.{better, no_better}
 use Rattle.rows.proofs.cell.Given as goal
 
 abbrev pub invariant-loop-p : goal.invariant-loop-p

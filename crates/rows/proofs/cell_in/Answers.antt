@@ -3,11 +3,9 @@ use mathlib.Core.Path.{◌≡◌, sym, ap, ◌∙◌}
 use mathlib.Core.Bool.{true}
 use mathlib.Core.Option.{some}
 use lib.IntN.{ℤ, pos, neg_ℤ}
-use borrow.Author.Tests.{not-true, not-false}
 use Rattle.numbers.specs.Whole.{within}
 use Rattle.problem.proofs.Prices.{cell_of}
 use Rattle.rows.proofs.Lines.{outside, inside, line_within}
-use borrow.Author.Rules.{rules}
 use Rattle.rows.proofs.cell_in.Goals as goal
 
 pub returns-then-not-within : goal.returns-then-not-within

@@ -1,9 +1,7 @@
 -- `clear_cells` meets its contract. The loop's invariant: every cell below x is 0. Assumes nothing.
-use mathlib.Core.Path.{refl}
 use Prim.Native.Nat.{◌≤◌, ◌-◌}
-use native.Mathlib.Omega.{arith}
-use lib.ListN.{length, length-set}
-use Rattle.rows.proofs.Turns.{Made, none_made, one_made}
+use lib.ListN.{length}
+use Rattle.rows.proofs.Turns.{Made}
 use Rattle.rows.proofs.clear_cells.Given as goal
 
 abbrev pub invariant-loop-x : goal.invariant-loop-x

@@ -2,11 +2,8 @@
 -- on are as they were, and of the row these are all that cell x needs. Assumes nothing.
 use native.Mathlib.Omega.{arith}
 use mathlib.Core.Path.{◌∙◌}
-use Prim.Native.Nat.{◌≤◌, ◌-◌}
-use lib.ListN.{length}
-use Rattle.problem.proofs.Max.{max_to, argmax, max_to_ext, argmax_ext}
-use Rattle.rows.specs.inner.Rows.{meets}
-use Rattle.rows.proofs.Turns.{Made, none_made, one_made, made_meets}
+use Rattle.problem.proofs.Max.{max_to_ext, argmax_ext}
+use Rattle.rows.proofs.Turns.{one_made, made_meets}
 use Rattle.rows.proofs.combine.Goals as goal
 
 pub loop-x-preserved : goal.loop-x-preserved

@@ -1,12 +1,10 @@
 -- `combine` meets its contract. The loop's invariant: the cells and choices below x are new, made of the old row; those from x
 -- on are as they were, and of the row these are all that cell x needs. Assumes nothing.
-use native.Mathlib.Omega.{arith}
-use mathlib.Core.Path.{◌∙◌}
 use Prim.Native.Nat.{◌≤◌, ◌-◌}
 use lib.ListN.{length}
-use Rattle.problem.proofs.Max.{max_to, argmax, max_to_ext, argmax_ext}
+use Rattle.problem.proofs.Max.{max_to, argmax}
 use Rattle.rows.specs.inner.Rows.{meets}
-use Rattle.rows.proofs.Turns.{Made, none_made, one_made, made_meets}
+use Rattle.rows.proofs.Turns.{Made}
 use Rattle.rows.proofs.combine.Given as goal
 
 abbrev pub invariant-loop-x : goal.invariant-loop-x

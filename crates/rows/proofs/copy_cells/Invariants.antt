@@ -1,9 +1,7 @@
 -- `copy_cells` meets its contract. The loop's invariant: the first i cells are copied. Assumes nothing.
-use native.Mathlib.Omega.{arith}
-use mathlib.Core.Path.{refl}
 use Prim.Native.Nat.{◌≤◌, ◌-◌}
 use lib.ListN.{length, get_or}
-use Rattle.rows.proofs.Turns.{Made, none_made, one_made}
+use Rattle.rows.proofs.Turns.{Made}
 use Rattle.rows.proofs.copy_cells.Given as goal
 
 abbrev pub invariant-loop-i : goal.invariant-loop-i

@@ -5,7 +5,6 @@ use native.Mathlib.Nat.{add-zero}
 use lib.ListN.{get_or}
 use Rattle.rows.specs.inner.Rows.{Offers}
 use Rattle.rows.proofs.Gives.{other_member, a_beginning, no_offer_lem, an_offer}
-use borrow.Author.Rules.{rules}
 use Rattle.rows.proofs.offer_at.Goals as goal
 
 pub returns-then-records-i : goal.returns-then-records-i

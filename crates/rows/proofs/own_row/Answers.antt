@@ -1,16 +1,8 @@
 -- `own_row` meets its contract. The loop's invariant: at each place the whole table's cell is the higher of what the row has
 -- and what the records from i on give. Assumes nothing.
-use mathlib.Core.Path.{◌≡◌, refl, sym, ◌∙◌}
-use Prim.Native.Nat.{ℕ, ◌<◌, ◌≤◌, ◌-◌, ◌/◌, max}
+use mathlib.Core.Path.{refl, sym, ◌∙◌}
 use native.Mathlib.Omega.{arith}
-use lib.IntN.{pos, ◌-ℤ◌}
-use lib.ListN.{length, get_or}
-use borrow.Author.Rules.{rules}
-use Rattle.problem.specs.Problem.{value}
-use Rattle.problem.proofs.Prices.{cell_of}
-use Rattle.records.specs.Records.{entries}
-use Rattle.records.specs.Market.{offers_of}
-use Rattle.rows.proofs.Gives.{left, left_all, left_none, left_more}
+use Rattle.rows.proofs.Gives.{left_all, left_none, left_more}
 use Rattle.rows.proofs.own_row.Goals as goal
 
 pub loop-i-init : goal.loop-i-init
@@ -24,8 +16,7 @@ loop-i-init c =
 
 pub loop-i-preserved : goal.loop-i-preserved
 loop-i-preserved c =
-    let k = c.put_record in
-    (
+    let k = c.put_record in (
       refl,
       omega arith,
       k.auto.row ∙ c.loop-i.invariant.2,

@@ -1,16 +1,14 @@
 -- `own_row` meets its contract. The loop's invariant: at each place the whole table's cell is the higher of what the row has
 -- and what the records from i on give. Assumes nothing.
-use mathlib.Core.Path.{◌≡◌, refl, sym, ◌∙◌}
+use mathlib.Core.Path.{◌≡◌}
 use Prim.Native.Nat.{ℕ, ◌<◌, ◌≤◌, ◌-◌, ◌/◌, max}
-use native.Mathlib.Omega.{arith}
 use lib.IntN.{pos, ◌-ℤ◌}
 use lib.ListN.{length, get_or}
-use borrow.Author.Rules.{rules}
 use Rattle.problem.specs.Problem.{value}
 use Rattle.problem.proofs.Prices.{cell_of}
 use Rattle.records.specs.Records.{entries}
 use Rattle.records.specs.Market.{offers_of}
-use Rattle.rows.proofs.Gives.{left, left_all, left_none, left_more}
+use Rattle.rows.proofs.Gives.{left}
 use Rattle.rows.proofs.own_row.Given as goal
 
 abbrev pub invariant-loop-i : goal.invariant-loop-i

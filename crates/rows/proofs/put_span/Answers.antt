@@ -2,13 +2,11 @@
 -- gives, those from x on are as they were, and p is the span's price at cell x. Assumes nothing.
 use mathlib.Core.Path.{◌≡◌, refl, sym, ap, ◌∙◌, subst}
 use mathlib.Core.Bool.{true}
-use Prim.Native.Nat.{ℕ, ◌-◌, ◌^◌, ◌<◌, max}
-use native.Mathlib.Omega.{arith}
+use Prim.Native.Nat.{ℕ, ◌^◌, ◌<◌, max}
 use lib.IntN.{ℤ, pos, neg_ℤ, nat_abs, ◌-ℤ◌}
 use lib.ListN.{length, get_or}
-use borrow.Author.Rules.{rules}
 use Rattle.numbers.specs.Whole.{within}
-use Rattle.rows.proofs.Lines.{on_line, Covered, covered, line_within, line_small, Putting, put_none, put_more, put_done, Put}
+use Rattle.rows.proofs.Lines.{on_line, Covered, covered, line_within, line_small, Putting, put_none, put_more, put_done}
 use Rattle.rows.proofs.put_span.Goals as goal
 
 pub loop-x-init : goal.loop-x-init

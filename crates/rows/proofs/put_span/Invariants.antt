@@ -1,14 +1,7 @@
 -- `put_span` meets its contract. The loop's invariant: the cells below x are the higher of what they held and what the span
 -- gives, those from x on are as they were, and p is the span's price at cell x. Assumes nothing.
-use mathlib.Core.Path.{◌≡◌, refl, sym, ap, ◌∙◌, subst}
-use mathlib.Core.Bool.{true}
-use Prim.Native.Nat.{ℕ, ◌-◌, ◌^◌, ◌<◌, max}
-use native.Mathlib.Omega.{arith}
-use lib.IntN.{ℤ, pos, neg_ℤ, nat_abs, ◌-ℤ◌}
-use lib.ListN.{length, get_or}
-use borrow.Author.Rules.{rules}
-use Rattle.numbers.specs.Whole.{within}
-use Rattle.rows.proofs.Lines.{on_line, Covered, covered, line_within, line_small, Putting, put_none, put_more, put_done, Put}
+use Prim.Native.Nat.{◌-◌}
+use Rattle.rows.proofs.Lines.{Put}
 use Rattle.rows.proofs.put_span.Given as goal
 
 abbrev pub invariant-loop-x : goal.invariant-loop-x

@@ -1,5 +1,4 @@
 -- `sum` meets its contract: none where either is none, and else the sum less 1. Assumes nothing.
-use borrow.Author.Rules.{rules}
 use Rattle.rows.proofs.Turns.{none_left, none_right, both}
 use Rattle.rows.proofs.sum.Goals as goal
 

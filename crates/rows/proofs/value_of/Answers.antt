@@ -1,29 +1,26 @@
 -- `value_of` meets its contract. The loop's invariant: the whole table's cell is the higher of the best so far and what the
 -- records from i on give. Assumes nothing.
 use mathlib.Core.Path.{◌≡◌, refl, sym, ap, ◌∙◌}
-use Prim.Native.Nat.{ℕ, ◌≤◌, ◌-◌, ◌/◌, max}
+use Prim.Native.Nat.{ℕ, ◌-◌}
 use native.Mathlib.Omega.{arith}
 use lib.IntN.{pos, ◌-ℤ◌}
-use lib.ListN.{length}
-use borrow.Author.Rules.{rules}
 use Rattle.problem.specs.Problem.{value}
 use Rattle.problem.proofs.Prices.{cell_of}
 use Rattle.records.specs.Records.{entries}
 use Rattle.records.specs.Market.{offers_of}
 use Rattle.rows.proofs.Prices.{none_back, price_back}
-use Rattle.rows.proofs.Gives.{left, left_all, left_none, left_more, value_limited, cell_bound}
+use Rattle.rows.proofs.Gives.{left_all, left_none, left_more, value_limited, cell_bound}
 use Rattle.rows.proofs.value_of.Goals as goal
 
 pub loop-i-init : goal.loop-i-init
 loop-i-init c = (refl, omega arith, left_all _ _ _ _ _ refl refl)
 
 pub loop-i-preserved : goal.loop-i-preserved
-loop-i-preserved c =
-    (
-      refl,
-      omega arith,
-      c.loop-i.invariant.2 ∙ left_more _ _ _ _ _ _ _ c.loop-i-test.true (omega (arith, c.higher-best.ensures, c.cell_at-c.ensures)),
-    )
+loop-i-preserved c = (
+  refl,
+  omega arith,
+  c.loop-i.invariant.2 ∙ left_more _ _ _ _ _ _ _ c.loop-i-test.true (omega (arith, c.higher-best.ensures, c.cell_at-c.ensures)),
+)
 
 pub returns-then-best-eq0 : goal.returns-then-best-eq0
 returns-then-best-eq0 c =

@@ -1,17 +1,13 @@
 -- `value_of` meets its contract. The loop's invariant: the whole table's cell is the higher of the best so far and what the
 -- records from i on give. Assumes nothing.
-use mathlib.Core.Path.{◌≡◌, refl, sym, ap, ◌∙◌}
-use Prim.Native.Nat.{ℕ, ◌≤◌, ◌-◌, ◌/◌, max}
-use native.Mathlib.Omega.{arith}
-use lib.IntN.{pos, ◌-ℤ◌}
+use mathlib.Core.Path.{◌≡◌}
+use Prim.Native.Nat.{◌≤◌, ◌-◌, ◌/◌, max}
 use lib.ListN.{length}
-use borrow.Author.Rules.{rules}
 use Rattle.problem.specs.Problem.{value}
 use Rattle.problem.proofs.Prices.{cell_of}
 use Rattle.records.specs.Records.{entries}
 use Rattle.records.specs.Market.{offers_of}
-use Rattle.rows.proofs.Prices.{none_back, price_back}
-use Rattle.rows.proofs.Gives.{left, left_all, left_none, left_more, value_limited, cell_bound}
+use Rattle.rows.proofs.Gives.{left}
 use Rattle.rows.proofs.value_of.Given as goal
 
 abbrev pub invariant-loop-i : goal.invariant-loop-i

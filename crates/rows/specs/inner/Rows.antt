@@ -10,9 +10,7 @@ use Rattle.records.specs.Records.{entry_at}
 use Rattle.records.specs.Market.{offers_of}
 use Rattle.rows.specs.declared.Span.{Span}
 use Rattle.rows.specs.declared.Offered.{Offered}
-use Rattle.rows.specs.declared.Offered.TheVariants as Offered
 use Rattle.rows.specs.declared.Worth.{Worth}
-use Rattle.rows.specs.declared.Worth.TheVariants as Worth
 
 -- the cell that record i alone gives member j for x units
 unfoldable pub given : List ℕ → ℕ → ℕ → ℤ → ℕ

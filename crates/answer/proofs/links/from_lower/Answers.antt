@@ -1,7 +1,7 @@
 -- `from_lower` meets its contract.
 use mathlib.Core.Path.{◌∙◌}
 use Rattle.answer.specs.inner.Words.{from_lower}
-use Rattle.answer.proofs.Sizes.{turned, opposite_fits}
+use Rattle.answer.proofs.Sizes.{turned}
 use Rattle.answer.proofs.links.from_lower.Goals as goal
 
 pub returns-then-lower : goal.returns-then-lower

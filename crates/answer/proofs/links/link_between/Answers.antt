@@ -4,8 +4,6 @@ use mathlib.Core.Bool.{true, false}
 use Prim.Native.Nat.{ℕ}
 use lib.Dec.{ltb}
 use lib.ListN.{get_or}
-use borrow.Author.Rules.{rules}
-use borrow.Author.Tests.{not-true, not-false}
 use Rattle.answer.specs.inner.Words.{position_in}
 use Rattle.answer.specs.declared.links.Joint.TheVariants as Joint
 use Rattle.answer.proofs.Joints.{not_below, higher_reached, lower_reached, not_reached}

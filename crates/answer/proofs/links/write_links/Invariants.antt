@@ -1,15 +1,9 @@
 -- `write_links` meets its contract. The invariant: the records of the links of members up to i stand at the start.
-use borrow.Author.Rules.{rules}
-use native.Mathlib.Omega.{arith}
-use mathlib.Core.Path.{◌≡◌, refl, ap, ◌∙◌}
-use mathlib.Core.List.{List}
-use Prim.Native.Nat.{ℕ, ◌+◌, ◌-◌, ◌≤◌}
-use lib.ListN.{length, length-take, length-drop}
-use Rattle.numbers.specs.declared.Units.{Units}
-use Rattle.network.specs.declared.Feeder.{Feeder}
+use mathlib.Core.Path.{◌≡◌}
+use Prim.Native.Nat.{◌-◌, ◌≤◌}
+use lib.ListN.{length}
 use Rattle.records.specs.Answer.{each}
-use Rattle.answer.specs.inner.Words.{link_by, links_by, Filled}
-use Rattle.answer.proofs.Filled.{filled_none, filled_more, filled_room, filled_next, filled_done}
+use Rattle.answer.specs.inner.Words.{link_by, Filled}
 use Rattle.answer.proofs.links.write_links.Given as goal
 
 abbrev pub invariant-loop-i : goal.invariant-loop-i

@@ -2,7 +2,7 @@
 use borrow.Author.Rules.{rules}
 use native.Mathlib.Omega.{arith}
 use mathlib.Core.Path.{◌≡◌, refl, sym, ap, ◌∙◌}
-use Prim.Native.Nat.{ℕ, ◌+◌, ◌-◌, ◌≤◌, ◌<◌}
+use Prim.Native.Nat.{ℕ, ◌+◌, ◌≤◌, ◌<◌}
 use mathlib.Core.List.{List}
 use lib.ListN.{length, length-take, length-drop}
 use lib.IntN.{ℤ, nat_abs}
@@ -10,7 +10,7 @@ use Rattle.numbers.specs.inner.Held.{units_in}
 use Rattle.network.specs.inner.Feeders.{toward_at}
 use Rattle.records.specs.Answer.{link_record}
 use Rattle.records.proofs.Written.{link_8}
-use Rattle.answer.specs.inner.Words.{link_by, Filled}
+use Rattle.answer.specs.inner.Words.{link_by}
 use Rattle.answer.proofs.Filled.{filled_none, filled_more, filled_skip, filled_room, filled_next}
 use Rattle.answer.proofs.Sizes.{size_from_lower}
 use Rattle.answer.proofs.Joints.{no_record, one_record, joint_inside}
@@ -19,7 +19,6 @@ use lib.IntN.{ℤ}
 use Rattle.numbers.specs.declared.Units.{Units}
 use Rattle.network.specs.declared.Feeder.{Feeder}
 use Rattle.answer.specs.declared.links.Joint.{Joint}
-use Rattle.answer.specs.declared.links.Joint.TheVariants as Joint
 use Rattle.answer.specs.inner.Words.{joint_of, from_lower}
 use Rattle.answer.proofs.links.write_links_of.Goals as goal
 

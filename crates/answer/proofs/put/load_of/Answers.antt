@@ -1,8 +1,6 @@
 -- `load_of` meets its contract.
-use borrow.Author.Rules.{rules}
 use borrow.Author.Tests.{eq-eqb, ne_eqb}
 use mathlib.Core.Path.{sym, ◌∙◌}
-use native.Mathlib.Omega.{arith}
 use Rattle.problem.specs.Problem.{load}
 use Rattle.answer.proofs.put.load_of.Goals as goal
 

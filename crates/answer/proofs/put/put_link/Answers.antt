@@ -1,5 +1,4 @@
 -- `put_link` meets its contract.
-use borrow.Author.Rules.{rules}
 use Rattle.records.specs.Answer.{low16, link_record}
 use Rattle.answer.proofs.put.put_link.Goals as goal
 

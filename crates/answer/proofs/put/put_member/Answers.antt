@@ -1,5 +1,4 @@
 -- `put_member` meets its contract.
-use borrow.Author.Rules.{rules}
 use Rattle.records.specs.Answer.{low16, low32, member_bytes}
 use Rattle.answer.proofs.put.put_member.Goals as goal
 

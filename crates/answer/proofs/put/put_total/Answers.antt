@@ -1,5 +1,4 @@
 -- `put_total` meets its contract.
-use borrow.Author.Rules.{rules}
 use Rattle.records.specs.Answer.{low32, total_record}
 use Rattle.answer.proofs.put.put_total.Goals as goal
 

@@ -1,13 +1,11 @@
 -- `choose` meets its contract. The loop's invariant: the choices before i are read, and the indices are those after them.
-use borrow.Author.Rules.{rules}
 use native.Mathlib.Omega.{arith}
-use mathlib.Core.Path.{◌≡◌}
-use Prim.Native.Nat.{ℕ, ◌+◌, ◌-◌, ◌≤◌, ◌<◌}
+use Prim.Native.Nat.{◌+◌, ◌≤◌, ◌<◌}
 use lib.ListN.{get_or}
 use Rattle.network.specs.inner.Feeders.{toward_at, away_at}
-use Rattle.engine.specs.inner.Words.{walk_of, Kept}
+use Rattle.engine.specs.inner.Words.{walk_of}
 use Rattle.engine.proofs.Shape.{shape}
-use Rattle.engine.proofs.Falls.{Falling, fall_start, fall_end, fall_fits, fall_turn}
+use Rattle.engine.proofs.Falls.{fall_start, fall_end, fall_fits, fall_turn}
 use Rattle.engine.proofs.downward.choose.Goals as goal
 
 pub loop-i-init : goal.loop-i-init

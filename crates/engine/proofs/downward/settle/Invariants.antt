@@ -1,13 +1,11 @@
 -- `settle` meets its contract. The loop's invariant: both arrays are filled below i.
-use borrow.Author.Rules.{rules}
-use native.Mathlib.Omega.{arith}
-use mathlib.Core.Path.{◌≡◌, refl}
-use Prim.Native.Nat.{◌-◌, ◌≤◌, ◌<◌}
+use mathlib.Core.Path.{◌≡◌}
+use Prim.Native.Nat.{◌-◌, ◌≤◌}
 use lib.IntN.{pos, ◌-ℤ◌}
 use lib.ListN.{get_or}
 use Rattle.network.specs.inner.Feeders.{away_at}
 use Rattle.engine.specs.inner.Words.{top_of}
-use Rattle.engine.proofs.Fill.{Filled, filled_none, filled_more}
+use Rattle.engine.proofs.Fill.{Filled}
 use Rattle.engine.proofs.downward.settle.Given as goal
 
 abbrev pub invariant-loop-i : goal.invariant-loop-i

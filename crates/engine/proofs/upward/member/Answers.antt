@@ -1,13 +1,11 @@
 -- `member` meets its contract. The loop's invariant: for every own row that the table makes, the row has taken in the children
 -- from position k on.
-use borrow.Author.Rules.{rules}
 use native.Mathlib.Omega.{arith}
 use mathlib.Core.Path.{sym, ◌∙◌}
-use Prim.Native.Nat.{ℕ, ◌-◌}
-use Rattle.problem.proofs.Form.{Walk}
-use Rattle.engine.specs.inner.Words.{walk_of, Small, Ready}
-use Rattle.engine.proofs.Shape.{Shape, shape, far}
-use Rattle.engine.proofs.Turns.{Gathering, fallen, Asked, Turned, kid_law, turn_not, start_law, end_len, end_kept, end_sent}
+use Prim.Native.Nat.{◌-◌}
+use Rattle.engine.specs.inner.Words.{walk_of, Small}
+use Rattle.engine.proofs.Shape.{shape, far}
+use Rattle.engine.proofs.Turns.{fallen, Asked, Turned, kid_law, turn_not, start_law, end_len, end_kept, end_sent}
 use Rattle.engine.proofs.upward.member.Goals as goal
 
 pub own_cells-requires : goal.own_cells-requires

@@ -1,7 +1,6 @@
 -- `own_cells` meets its contract: what `own_row` gives the part that is lent is the own row of the member at v.
-use borrow.Author.Rules.{rules}
 use native.Mathlib.Omega.{arith}
-use mathlib.Core.Path.{◌≡◌, sym, ap, ◌∙◌}
+use mathlib.Core.Path.{◌≡◌, ap, ◌∙◌}
 use mathlib.Core.List.{List, ◌++◌}
 use Prim.Native.Nat.{ℕ, ◌<◌, ◌≤◌}
 use lib.IntN.{ℤ, pos, ◌-ℤ◌}

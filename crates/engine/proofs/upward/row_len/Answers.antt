@@ -1,10 +1,7 @@
 -- `row_len` meets its contract. The loop's invariant: the length is that of the row that the positions below k have been joined on to.
-use borrow.Author.Rules.{rules}
 use native.Mathlib.Omega.{arith}
-use mathlib.Core.Path.{◌≡◌, sym, ap, ◌∙◌}
-use mathlib.Core.Logic.{⊎_elim}
-use Prim.Native.Nat.{ℕ, ◌<◌, ◌≤◌, ◌+◌, ◌-◌}
-use Rattle.problem.proofs.Reach.{reach}
+use mathlib.Core.Path.{sym, ◌∙◌}
+use Prim.Native.Nat.{ℕ}
 use Rattle.engine.specs.inner.Words.{walk_of}
 use Rattle.engine.proofs.Shape.{shape, far, reach_first, reach_kid, reach_not}
 use Rattle.engine.proofs.upward.row_len.Goals as goal

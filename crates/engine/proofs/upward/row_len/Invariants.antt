@@ -1,12 +1,8 @@
 -- `row_len` meets its contract. The loop's invariant: the length is that of the row that the positions below k have been joined on to.
-use borrow.Author.Rules.{rules}
-use native.Mathlib.Omega.{arith}
-use mathlib.Core.Path.{◌≡◌, sym, ap, ◌∙◌}
-use mathlib.Core.Logic.{⊎_elim}
+use mathlib.Core.Path.{◌≡◌}
 use Prim.Native.Nat.{ℕ, ◌<◌, ◌≤◌, ◌+◌, ◌-◌}
 use Rattle.problem.proofs.Reach.{reach}
 use Rattle.engine.specs.inner.Words.{walk_of}
-use Rattle.engine.proofs.Shape.{shape, far, reach_first, reach_kid, reach_not}
 use Rattle.engine.proofs.upward.row_len.Given as goal
 
 abbrev pub invariant-loop-k : goal.invariant-loop-k

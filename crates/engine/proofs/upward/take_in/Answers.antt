@@ -1,11 +1,8 @@
 -- `take_in` meets its contract: the three parts are within their slices, and `combine` does the rest.
-use borrow.Author.Rules.{rules}
 use native.Mathlib.Omega.{arith}
-use mathlib.Core.Path.{sym}
 use Prim.Native.Nat.{◌+◌, ◌-◌, ◌≤◌}
-use lib.Seq.{length-take-le}
 use Rattle.engine.proofs.Slots.{slot_end}
-use Rattle.engine.proofs.Parts.{combine_asks, taken_law}
+use Rattle.engine.proofs.Parts.{taken_law}
 use Rattle.engine.proofs.upward.take_in.Goals as goal
 
 pub overflow_add-d : goal.overflow_add-d

@@ -1,9 +1,6 @@
 -- `top` meets its contract. The loop's invariant: the sum is that of the positions below k.
-use borrow.Author.Rules.{rules}
 use native.Mathlib.Omega.{arith}
 use mathlib.Core.Path.{◌≡◌, sym, ap, ap₂, ◌∙◌}
-use mathlib.Core.Logic.{⊎_elim}
-use Prim.Native.Nat.{◌≤◌, ◌-◌}
 use lib.IntN.{pos, ◌+ℤ◌}
 use Rattle.numbers.specs.declared.Units.{Units}
 use Rattle.engine.proofs.Counts.{plus_fits}

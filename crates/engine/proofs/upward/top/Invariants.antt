@@ -1,13 +1,8 @@
 -- `top` meets its contract. The loop's invariant: the sum is that of the positions below k.
-use borrow.Author.Rules.{rules}
-use native.Mathlib.Omega.{arith}
-use mathlib.Core.Path.{◌≡◌, sym, ap, ap₂, ◌∙◌}
-use mathlib.Core.Logic.{⊎_elim}
+use mathlib.Core.Path.{◌≡◌}
 use Prim.Native.Nat.{◌≤◌, ◌-◌}
-use lib.IntN.{pos, ◌+ℤ◌}
-use Rattle.numbers.specs.declared.Units.{Units}
-use Rattle.engine.proofs.Counts.{plus_fits}
-use Rattle.engine.proofs.Tops.{top_to, top_start, top_kid, top_not, top_most, top_end}
+use lib.IntN.{pos}
+use Rattle.engine.proofs.Tops.{top_to}
 use Rattle.engine.proofs.upward.top.Given as goal
 
 abbrev pub invariant-loop-k : goal.invariant-loop-k

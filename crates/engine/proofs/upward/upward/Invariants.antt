@@ -1,13 +1,10 @@
 -- `upward` meets its contract. The loop's invariant: the members from v on have sent their messages.
-use borrow.Author.Rules.{rules}
-use native.Mathlib.Omega.{arith}
-use mathlib.Core.Path.{◌≡◌, sym, subst, ◌∙◌}
-use Prim.Native.Nat.{ℕ, ◌≤◌}
+use mathlib.Core.Path.{◌≡◌}
+use Prim.Native.Nat.{◌≤◌}
 use lib.ListN.{length}
 use Rattle.records.specs.Records.{entries}
 use Rattle.records.specs.Market.{offers_of}
 use Rattle.engine.specs.inner.Words.{own_of, Done}
-use Rattle.engine.proofs.Passes.{done_none, done_next}
 use Rattle.engine.proofs.upward.upward.Given as goal
 
 abbrev pub invariant-loop-v : goal.invariant-loop-v

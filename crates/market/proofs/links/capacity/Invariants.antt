@@ -1,16 +1,8 @@
 -- `capacity` meets its contract, one line a turn. The measure is the number of lines left. Assumes nothing.
-use mathlib.Core.Path.{◌≡◌, refl, sym, ap, ◌∙◌}
-use mathlib.Core.Bool.{true, false}
-use mathlib.Core.List.{List}
-use Prim.Native.Nat.{ℕ, ◌≤◌, ◌-◌}
-use lib.IntN.{pos}
-use Rattle.numbers.specs.inner.Held.{units}
-use Rattle.problem.specs.Problem.{Link}
+use mathlib.Core.Path.{◌≡◌}
+use Prim.Native.Nat.{◌≤◌, ◌-◌}
 use Rattle.market.specs.inner.Feeders.{capacity_of}
 use Rattle.market.specs.inner.Lines.{kept_from, kept}
-use Rattle.market.proofs.Kept.{kept_ended, kept_all, capacity_next}
-use borrow.Author.Rules.{rules}
-use native.Mathlib.Omega.{arith}
 use Rattle.market.proofs.links.capacity.Given as goal
 
 abbrev pub invariant-loop-e : goal.invariant-loop-e

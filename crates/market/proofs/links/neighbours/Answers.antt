@@ -1,7 +1,7 @@
 -- `neighbours` meets its contract, one line a turn. The measure is the number of lines left. Assumes nothing.
-use mathlib.Core.Path.{◌≡◌, refl, subst}
+use mathlib.Core.Path.{refl, subst}
 use Prim.Native.Nat.{◌+◌, ◌≤◌, ◌<◌, ◌-◌}
-use lib.ListN.{length, get_or, replicate, get_or-replicate}
+use lib.ListN.{get_or, replicate, get_or-replicate}
 use Rattle.problem.proofs.Tree.{Within}
 use Rattle.network.proofs.Near.{Near, near_none, near_done}
 use Rattle.market.specs.declared.links.Line.{Line}

@@ -1,14 +1,10 @@
 -- `neighbours` meets its contract, one line a turn. The measure is the number of lines left. Assumes nothing.
-use mathlib.Core.Path.{◌≡◌, refl, subst}
-use Prim.Native.Nat.{◌+◌, ◌≤◌, ◌<◌, ◌-◌}
-use lib.ListN.{length, get_or, replicate, get_or-replicate}
+use mathlib.Core.Path.{◌≡◌}
+use Prim.Native.Nat.{◌≤◌, ◌-◌}
+use lib.ListN.{length}
 use Rattle.problem.proofs.Tree.{Within}
-use Rattle.network.proofs.Near.{Near, near_none, near_done}
-use Rattle.market.specs.declared.links.Line.{Line}
-use Rattle.market.specs.inner.Lines.{no_line, kept_from, kept}
-use Rattle.market.proofs.Kept.{kept_rest, kept_ended, kept_all, near_more}
-use borrow.Author.Rules.{rules}
-use native.Mathlib.Omega.{arith}
+use Rattle.network.proofs.Near.{Near}
+use Rattle.market.specs.inner.Lines.{kept_from, kept}
 use Rattle.market.proofs.links.neighbours.Given as goal
 
 abbrev pub invariant-loop-e : goal.invariant-loop-e

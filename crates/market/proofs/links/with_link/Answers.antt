@@ -1,10 +1,9 @@
 -- `with_link` meets its contract. Assumes nothing.
-use mathlib.Core.Path.{refl, sym, ◌∙◌}
+use mathlib.Core.Path.{refl}
 use Prim.Native.Nat.{◌<◌}
-use lib.ListN.{length, length-map}
+use lib.ListN.{length}
 use Rattle.market.proofs.Kept.{kept_more, fair_more}
 use borrow.Author.Rules.{rules}
-use native.Mathlib.Omega.{arith}
 use Rattle.market.proofs.links.with_link.Goals as goal
 
 pub returns : goal.returns

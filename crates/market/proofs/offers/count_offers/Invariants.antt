@@ -1,12 +1,10 @@
 -- `count_offers` meets its contract: the tally of the records before record i, and what is left. The measure is the number of records
 -- left. Assumes nothing.
-use mathlib.Core.Path.{◌≡◌, refl}
+use mathlib.Core.Path.{◌≡◌}
 use Prim.Native.Nat.{◌≤◌, ◌-◌, ◌/◌}
 use lib.ListN.{length}
 use Rattle.records.specs.Refusals.{file_limit}
-use Rattle.market.proofs.Tables.{Tallying, tallying_none, tallying_more, tallying_done}
-use borrow.Author.Rules.{rules}
-use native.Mathlib.Omega.{arith}
+use Rattle.market.proofs.Tables.{Tallying}
 use Rattle.market.proofs.offers.count_offers.Given as goal
 
 abbrev pub invariant-loop-i : goal.invariant-loop-i

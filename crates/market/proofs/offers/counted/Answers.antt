@@ -1,7 +1,6 @@
 -- `counted` meets its contract, by the four cases of a record. Assumes nothing.
 use mathlib.Core.Path.{sym, ◌∙◌}
 use Rattle.market.proofs.Tables.{offer_member, counts_link, counts_offer, counts_begins, counts_fault}
-use borrow.Author.Rules.{rules}
 use Rattle.market.proofs.offers.counted.Goals as goal
 
 pub offered-requires : goal.offered-requires

@@ -1,14 +1,11 @@
 -- `lowest_outside` meets its contract. The loop's invariant: the counts of members 1 to j are inside. The measure is the number of
 -- members left. Assumes nothing.
 use mathlib.Core.Path.{sym, ap, ◌∙◌}
-use Prim.Native.Nat.{◌≤◌, ◌-◌}
 use Rattle.market.specs.inner.Cases.{place_of}
 use Rattle.market.specs.inner.Tallies.{outside}
 use Rattle.market.specs.declared.Place.TheVariants as Place
-use Rattle.market.proofs.Passes.{Passed, member_miss, member_hit, member_none}
+use Rattle.market.proofs.Passes.{member_miss, member_hit, member_none}
 use Rattle.market.proofs.Tables.{too_few, too_high, inside}
-use borrow.Author.Rules.{rules}
-use native.Mathlib.Omega.{arith}
 use Rattle.market.proofs.offers.lowest_outside.Goals as goal
 
 pub returns-then-count-least : goal.returns-then-count-least

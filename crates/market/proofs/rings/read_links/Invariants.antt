@@ -1,16 +1,11 @@
 -- `read_links` meets its contract. The outer loop's invariant: the sets and the store keep the links before record i, and none
 -- of these closes a ring; the measure is the number of records left. The inner loop's: none of the sets below e holds both ends
 -- of the link of record i; the measure is the number of sets left. Assumes nothing.
-use mathlib.Core.Path.{◌≡◌, sym, ap, ◌∙◌}
-use mathlib.Core.Bool.{false, ◌&&◌}
-use Prim.Native.Nat.{ℕ, ◌≤◌, ◌<◌, ◌-◌, ◌/◌}
-use lib.ListN.{length, get_or}
-use Rattle.network.specs.inner.Sets.{holds}
-use Rattle.market.specs.inner.Cases.{place_of}
-use Rattle.network.proofs.Merges.{Searched, searched_none, searched_more}
-use Rattle.market.proofs.Scan.{Pass, pass_start, pass_end, pass_skip, Found, line_fits, ends_in, pass_hit, room, pass_link}
-use borrow.Author.Rules.{rules}
-use native.Mathlib.Omega.{arith}
+use mathlib.Core.Path.{◌≡◌}
+use Prim.Native.Nat.{◌≤◌, ◌-◌, ◌/◌}
+use lib.ListN.{length}
+use Rattle.network.proofs.Merges.{Searched}
+use Rattle.market.proofs.Scan.{Pass, Found}
 use Rattle.market.proofs.rings.read_links.Given as goal
 
 abbrev pub invariant-loop-e : goal.invariant-loop-e

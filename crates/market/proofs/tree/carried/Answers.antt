@@ -1,13 +1,7 @@
 -- `carried` meets its contract, one position a turn. The measure is the number of positions left. Assumes nothing.
-use mathlib.Core.Path.{◌≡◌}
-use Prim.Native.Nat.{◌≤◌, ◌-◌}
 use lib.IntN.{pos}
-use lib.ListN.{get_or}
-use Rattle.numbers.specs.inner.Held.{units, member_in}
-use Rattle.market.specs.inner.Feeders.{capacity_of, places}
-use Rattle.market.specs.inner.Lines.{kept}
+use Rattle.numbers.specs.inner.Held.{units}
 use Rattle.market.proofs.Filled.{places_none, places_more}
-use borrow.Author.Rules.{rules}
 use native.Mathlib.Omega.{arith}
 use Rattle.market.proofs.tree.carried.Goals as goal
 

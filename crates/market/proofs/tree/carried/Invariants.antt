@@ -6,9 +6,6 @@ use lib.ListN.{get_or}
 use Rattle.numbers.specs.inner.Held.{units, member_in}
 use Rattle.market.specs.inner.Feeders.{capacity_of, places}
 use Rattle.market.specs.inner.Lines.{kept}
-use Rattle.market.proofs.Filled.{places_none, places_more}
-use borrow.Author.Rules.{rules}
-use native.Mathlib.Omega.{arith}
 use Rattle.market.proofs.tree.carried.Given as goal
 
 abbrev pub invariant-loop-i : goal.invariant-loop-i

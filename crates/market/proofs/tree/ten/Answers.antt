@@ -1,8 +1,7 @@
 -- `ten` meets its contract: where a member is not reached that is refusal 10, else the arrays of the walk are the market's. Assumes
 -- nothing.
-use mathlib.Core.Path.{◌≡◌, sym, ◌∙◌, ap}
+use mathlib.Core.Path.{◌≡◌, ◌∙◌, ap}
 use mathlib.Core.Option.{none}
-use lib.ListN.{length-map}
 use Rattle.problem.proofs.Tree.{Tree}
 use Rattle.market.specs.Refusals.{apart}
 use Rattle.market.specs.inner.Feeders.{checked}
@@ -11,7 +10,6 @@ use Rattle.market.proofs.Trees.{tree_of}
 use Rattle.market.proofs.Arrays.{mask_small, apart_some, apart_none, from_in, laid_is}
 use Rattle.market.proofs.Verdicts.{refused_is}
 use borrow.Author.Rules.{rules}
-use native.Mathlib.Omega.{arith}
 use Rattle.market.proofs.tree.ten.Goals as goal
 
 pub lowest_missing-missing-requires : goal.lowest_missing-missing-requires
