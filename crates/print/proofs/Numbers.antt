@@ -33,7 +33,7 @@ put_number {page} {made} {s} {t} {at} {place} z n k sign size few spelled p =
 
 -- a number of fewer bits, cast to 64
 pub widened : {w : Width} {z : ℤ} → T (leb (hbits w) (hbits w64)) → SFits w z → to_z w64 (of_z w64 (to_z w (of_z w z))) ≡ z
-widened {w} {z} less f = ap (λ (y : ℤ). to_z w64 (of_z w64 y)) (to_z-of_z f) ∙ to_z-of_z (sfits_widen less f)
+widened {w} {z} less f = ap (λ (y : ℤ). to_z w64 (of_z w64 y)) (to_z-of_z f) ∙ to_z-of_z {w = w64} (sfits_widen less f)
 
 -- the number that a call was handed is the one that is meant
 pub same_number : {page made : List ℕ} {at place : ℕ} {z z' : ℤ} → z ≡ z' → PutNumber page at z made place → PutNumber page at z' made place
