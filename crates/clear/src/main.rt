@@ -1,11 +1,15 @@
 // Clears the market on standard input and writes its lines to standard output, in one write. What cannot be read or written
 // is said on standard error. Started with an argument, it tells its caller on descriptor 3, last of all, what became of the
-// market: a program here has no exit status of its own.
+// market; its exit status is 0 whatever that was.
 #![tactic(auto)]
 
-use libc::{STDERR_FILENO, STDIN_FILENO, STDOUT_FILENO};
+use std::env::FillError;
+use std::fs::OpenOptions;
+use std::io::{Read, Write};
+use std::rt::{Env, Files};
 
-const CALLER: i32 = 3;
+// Descriptor 3, as a file.
+const CALLER: &str = "/dev/fd/3";
 
 // What became of the market, as the digit that the caller is told.
 const CLEARED: u8 = b'0';
@@ -17,46 +21,50 @@ const NO_ANSWER: u8 = b'2';
 // The longest answer, 32 lines of at most 20 bytes, 31 of at most 17 and a last one, takes less than 1,200 bytes.
 const PAGE: usize = 2048;
 
-// Says why the lines, which end at this place of their page, were not written.
-fn unwritten(end: usize) {
-    if end < PAGE {
-        os::fail(b"clear: cannot write the answer");
-    } else {
-        io::write_all(
-            STDERR_FILENO,
-            b"clear: cannot write the answer: it is longer than its page\n",
-        );
-    }
-}
-
 // Clears the market of a file, and writes its lines.
-fn answer(file: &[u8]) -> u8 {
+fn answer<W: Write>(rt: &impl Eprint, output: &mut W, file: &[u8]) -> u8 {
     let mut page = [0u8; PAGE];
     let shown = show::lines(file, &mut page);
-    let end = shown.end;
-    if !streams::write(STDOUT_FILENO, &page, end) {
-        unwritten(end);
-        return NO_ANSWER;
+    match streams::write(output, &page, shown.end) {
+        Ok(true) => { if shown.refused { REFUSED } else { CLEARED } }
+        Ok(false) => {
+            let _ = eprintln!(rt; "clear: cannot write the answer: it is longer than its page");
+            NO_ANSWER
+        }
+        Err(error) => {
+            let _ = eprintln!(rt; "clear: cannot write the answer: {error}");
+            NO_ANSWER
+        }
     }
-    if shown.refused { REFUSED } else { CLEARED }
 }
 
 // Clears the market on standard input. A file of more than 33,016 bytes is read no further than to 33,024, which shows that
 // it is too long.
-fn clear() -> u8 {
+fn clear<R: Read, W: Write>(rt: &impl Eprint, input: &mut R, output: &mut W) -> u8 {
     let mut file = [0u8; 33024];
-    let got = streams::read(STDIN_FILENO, &mut file);
-    if got < 0 {
-        os::fail(b"clear: cannot read the market");
-        return NO_ANSWER;
+    match streams::read(input, &mut file) {
+        Ok(n) => answer(rt, output, &file[..n]),
+        Err(error) => {
+            let _ = eprintln!(rt; "clear: cannot read the market: {error}");
+            NO_ANSWER
+        }
     }
-    let n = io::count(got, &file);
-    answer(&file[..n])
 }
 
-fn main() {
-    let outcome = clear();
-    if os::arg_count() > 1 {
-        io::write_all(CALLER, &[outcome]);
+fn has_argument(env: &impl Env) -> bool {
+    !matches!(env.arg(1, &mut []), Err(FillError::NotPresent))
+}
+
+// Tells the caller, if there is one.
+fn tell(files: &impl Files, outcome: u8) {
+    if let Ok(mut caller) = OpenOptions::new().append(true).open(files, CALLER) {
+        let _ = caller.write_all(&[outcome]);
+    }
+}
+
+fn main(rt: HostRuntime) {
+    let outcome = clear(&rt, &mut rt.stdin(), &mut rt.stdout());
+    if has_argument(&rt) {
+        tell(&rt, outcome);
     }
 }

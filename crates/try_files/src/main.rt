@@ -1,11 +1,14 @@
 // Writes of each file that an argument names the walk of its market, or its refusal under 1 to 10, 13 or 14.
 #![tactic(auto)]
 
-use libc::STDOUT_FILENO;
 use market::Checked;
 use network::Feeder;
 use numbers::{Member, Units};
 use records::Verdict;
+use std::fs::File;
+use std::io::{Read, Write};
+use std::rt::Files;
+use std::{env, io};
 
 fn refused(page: &mut [u8], at: usize, number: u8, place: u16) -> usize {
     let at = print::text(page, at, b" R ");
@@ -70,39 +73,35 @@ fn line(page: &mut [u8], at: usize, c: Checked) -> usize {
     print::text(page, at, b"\n")
 }
 
-fn read(page: &mut [u8], at: usize, fd: i32) -> usize {
+fn read<R: Read>(page: &mut [u8], at: usize, reader: &mut R) -> usize {
     let mut file = [0u8; 33032];
-    let got = streams::read(fd, &mut file);
-    libc::close(fd);
-    if got < 0 {
-        return print::text(page, at, b" cannot be read\n");
+    match streams::read(reader, &mut file) {
+        Ok(n) => line(page, at, market::market(&file[..n])),
+        Err(_) => print::text(page, at, b" cannot be read\n"),
     }
-    let n = io::count(got, &file);
-    line(page, at, market::market(&file[..n]))
 }
 
-fn named(page: &mut [u8], path: &[u8]) -> usize {
-    let at = print::text(page, 0, path);
-    let fd = os::open_read(path);
-    if fd < 0 {
-        return print::text(page, at, b" cannot be opened\n");
+fn named(files: &impl Files, page: &mut [u8], path: &str) -> usize {
+    let at = print::text(page, 0, path.as_bytes());
+    match File::open(files, path) {
+        Ok(mut file) => read(page, at, &mut file),
+        Err(_) => print::text(page, at, b" cannot be opened\n"),
     }
-    read(page, at, fd)
 }
 
-fn case(i: usize) {
-    let mut name = [0u8; 64];
-    let k = os::arg(i, &mut name);
+fn case<W: Write>(files: &impl Files, output: &mut W, path: &str) {
     let mut page = [0u8; 1024];
-    let end = named(&mut page, &name[..k]);
-    if !streams::write(STDOUT_FILENO, &page, end) {
-        io::write_all(STDOUT_FILENO, b"cannot be written\n");
-    }
+    let end = named(files, &mut page, path);
+    let Ok(true) = streams::write(output, &page, end) else {
+        let _ = output.write_all(b"cannot be written\n");
+        return;
+    };
 }
 
-fn main() {
-    let n = os::arg_count();
-    for i in 1..n {
-        case(i);
+fn main(rt: HostRuntime) -> io::Result<()> {
+    let mut output = rt.stdout();
+    for path in env::args(&rt)?.skip(1) {
+        case(&rt, &mut output, path.as_str());
     }
+    Ok(())
 }

@@ -1,9 +1,9 @@
 // Writes each record on standard input as it is read.
 #![tactic(auto)]
 
-use libc::{STDIN_FILENO, STDOUT_FILENO};
 use numbers::{Member, Price, Slope, Units};
 use records::{Reading, Terms};
+use std::io::Write;
 
 fn link(page: &mut [u8], at: usize, a: Member, b: Member, capacity: Units) -> usize {
     let at = print::text(page, at, b"link ");
@@ -96,21 +96,21 @@ fn lines(page: &mut [u8], file: &[u8]) -> usize {
     at
 }
 
-fn write(file: &[u8]) {
+fn write<W: Write>(output: &mut W, file: &[u8]) {
     let mut page = [0u8; 4096];
     let end = lines(&mut page, file);
-    if !streams::write(STDOUT_FILENO, &page, end) {
-        io::write_all(STDOUT_FILENO, b"cannot be written\n");
-    }
+    let Ok(true) = streams::write(output, &page, end) else {
+        let _ = output.write_all(b"cannot be written\n");
+        return;
+    };
 }
 
-fn main() {
+fn main(rt: HostRuntime) {
     let mut file = [0u8; 2048];
-    let got = streams::read(STDIN_FILENO, &mut file);
-    if got < 0 {
-        io::write_all(STDOUT_FILENO, b"cannot be read\n");
-        return;
+    match streams::read(&mut rt.stdin(), &mut file) {
+        Ok(n) => write(&mut rt.stdout(), &file[..n]),
+        Err(_) => {
+            let _ = println!(rt; "cannot be read");
+        }
     }
-    let n = io::count(got, &file);
-    write(&file[..n]);
 }
