@@ -26,7 +26,8 @@ fn answer<W: Write>(rt: &impl Eprint, output: &mut W, file: &[u8]) -> u8 {
     let mut page = [0u8; PAGE];
     let shown = show::lines(file, &mut page);
     match streams::write(output, &page, shown.end) {
-        Ok(true) => { if shown.refused { REFUSED } else { CLEARED } }
+        Ok(true) if shown.refused => REFUSED,
+        Ok(true) => CLEARED,
         Ok(false) => {
             let _ = eprintln!(rt; "clear: cannot write the answer: it is longer than its page");
             NO_ANSWER
@@ -55,9 +56,14 @@ fn has_argument(env: &impl Env) -> bool {
     !matches!(env.arg(1, &mut []), Err(FillError::NotPresent))
 }
 
-// Tells the caller, if there is one.
+// Tells the caller, if there is one. The descriptor is opened again, to read too: a pipe that no one reads any more would not
+// open to write alone, and the program would wait for a reader.
 fn tell(files: &impl Files, outcome: u8) {
-    if let Ok(mut caller) = OpenOptions::new().append(true).open(files, CALLER) {
+    let opened = OpenOptions::new()
+        .read(true)
+        .append(true)
+        .open(files, CALLER);
+    if let Ok(mut caller) = opened {
         let _ = caller.write_all(&[outcome]);
     }
 }

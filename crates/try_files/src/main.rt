@@ -92,10 +92,9 @@ fn named(files: &impl Files, page: &mut [u8], path: &str) -> usize {
 fn case<W: Write>(files: &impl Files, output: &mut W, path: &str) {
     let mut page = [0u8; 1024];
     let end = named(files, &mut page, path);
-    let Ok(true) = streams::write(output, &page, end) else {
+    if !matches!(streams::write(output, &page, end), Ok(true)) {
         let _ = output.write_all(b"cannot be written\n");
-        return;
-    };
+    }
 }
 
 fn main(rt: HostRuntime) -> io::Result<()> {

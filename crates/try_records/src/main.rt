@@ -99,10 +99,9 @@ fn lines(page: &mut [u8], file: &[u8]) -> usize {
 fn write<W: Write>(output: &mut W, file: &[u8]) {
     let mut page = [0u8; 4096];
     let end = lines(&mut page, file);
-    let Ok(true) = streams::write(output, &page, end) else {
+    if !matches!(streams::write(output, &page, end), Ok(true)) {
         let _ = output.write_all(b"cannot be written\n");
-        return;
-    };
+    }
 }
 
 fn main(rt: HostRuntime) {
