@@ -43,7 +43,7 @@ mark() { # FILE
 }
 
 # Prints why FILE, called NAME, has to be built, or nothing where it is up to date: it is there, and nothing that it is made
-# of is newer than its mark. In the checkout.
+# of is newer than its mark. In the checkout. A folder `out` is the kit's own, and so is the time of a folder that holds one.
 reason() { # FILE NAME SOURCES
     if [ ! -f "$1" ]; then
         echo "$2 is missing"
@@ -51,7 +51,7 @@ reason() { # FILE NAME SOURCES
         echo "$2 is not known to be up to date"
     else
         # shellcheck disable=SC2086
-        newer=$(find $3 -newer "$(mark "$1")") || fail "what $2 is made of cannot be read"
+        newer=$(find $3 -name out -prune -o -newer "$(mark "$1")" ! -exec test -d '{}/out' ';' -print) || fail "what $2 is made of cannot be read"
         [ -z "$newer" ] || echo "$(echo "$newer" | head -n 1) is newer than $2"
     fi
 }
@@ -89,14 +89,17 @@ up_to_date() { # FILE NAME SOURCES COMMAND BUILDER
     ) </dev/null >&2 || exit 2
 }
 
+# The kit builds a program by running it, here on no bytes, and leaves what it builds in the crate's folder `out`.
 build_clear() {
-    # rt builds no crate again that has its stamp, not even where what it built is gone.
-    [ -f target/bin/clear ] || rm -f target/stamp/clear
-    rt check clear
+    cd crates/clear && rt run </dev/null && cd ../.. || return
+    [ -f crates/clear/out/clear ] || return 0
+    mkdir -p target/bin && cp -f crates/clear/out/clear target/bin/clear
 }
 
 build_archive() {
-    rt staticlib entry
+    cd crates/entry && rt lib && cd ../.. || return
+    [ -f crates/entry/out/libentry.a ] || return 0
+    mkdir -p target/staticlib && cp -f crates/entry/out/libentry.a target/staticlib/libentry.a
 }
 
 build_rust_tool() {

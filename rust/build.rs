@@ -1,6 +1,6 @@
 //! Links the proved library, `libentry.a`: from the folder that CLEARING_ARCHIVE names, or, in a
-//! checkout, from `target/staticlib`, where `rt staticlib entry` writes it. What cannot be linked,
-//! or is older than its sources, is refused here, in words.
+//! checkout, from `target/staticlib`, where `bin/build archive` puts it. What cannot be linked, or
+//! is older than its sources, is refused here, in words.
 
 use std::env;
 use std::fs;
@@ -71,7 +71,7 @@ fn present(archive: &Path) -> Result<(), String> {
     match archive.is_file() {
         true => Ok(()),
         false => Err(format!(
-            "{} is missing: run `rt staticlib entry` in the checkout, or name the folder of a \
+            "{} is missing: run `bin/build archive` in the checkout, or name the folder of a \
              libentry.a in CLEARING_ARCHIVE",
             archive.display()
         )),
@@ -86,7 +86,7 @@ fn up_to_date(archive: &Path, sources: &[PathBuf]) -> Result<(), String> {
         let newer = newer_than(built, source).map_err(|error| unread(source, error))?;
         if let Some(newer) = newer {
             return Err(format!(
-                "{} is newer than {}: run `rt staticlib entry` in the checkout",
+                "{} is newer than {}: run `bin/build archive` in the checkout",
                 newer.display(),
                 archive.display()
             ));
@@ -96,10 +96,14 @@ fn up_to_date(archive: &Path, sources: &[PathBuf]) -> Result<(), String> {
 }
 
 /// What was changed after `built`: this file or folder, or one in this folder. A folder is changed
-/// where a file of it is gone.
+/// where a file of it is gone. A folder `out` is the kit's own, and so is the time of a folder that
+/// holds one.
 fn newer_than(built: SystemTime, path: &Path) -> io::Result<Option<PathBuf>> {
+    if path.ends_with("out") {
+        return Ok(None);
+    }
     let own = fs::symlink_metadata(path)?;
-    if own.modified()? > built {
+    if own.modified()? > built && !path.join("out").is_dir() {
         return Ok(Some(path.to_path_buf()));
     }
     if !own.is_dir() {

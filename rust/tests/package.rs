@@ -119,7 +119,7 @@ fn a_missing_archive_is_named_with_both_remedies() {
     let words = [
         path,
         "is missing",
-        "`rt staticlib entry`",
+        "`bin/build archive`",
         "CLEARING_ARCHIVE",
     ];
     assert_refused(cargo(&folder, "rust").arg("check"), &words);
@@ -135,7 +135,7 @@ fn an_archive_older_than_a_source_is_refused() {
         let path = folder.path(source);
         age(&path, 0);
         let newer = format!("{} is newer than", path.display());
-        let words = [&newer, "`rt staticlib entry`"];
+        let words = [&newer, "`bin/build archive`"];
         assert_refused(cargo(&folder, "rust").arg("build"), &words);
         age(&path, 200);
     }

@@ -22,13 +22,13 @@ use std::time::Duration;
 
 const A: &str = "P 1 -2 -100\nP 2 0 0\nP 3 2 180\nL 1 2 2 1000\nL 2 3 2 666\nT 80\n";
 
-const BUILD: &str = "run `rt check clear` in the repository's root first";
+const BUILD: &str = "run `bin/build clear` in the repository's root first";
 
 pub fn root() -> PathBuf {
     Path::new(env!("CARGO_MANIFEST_DIR")).join("..")
 }
 
-/// The program's path: CLEAR_PROGRAM, or where `rt check clear` puts it.
+/// The program's path: CLEAR_PROGRAM, or where `bin/build clear` puts it.
 fn program() -> PathBuf {
     let path = match env::var_os("CLEAR_PROGRAM") {
         Some(path) => path.into(),

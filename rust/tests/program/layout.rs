@@ -25,9 +25,9 @@ const RUST: [&str; 5] = [
 ];
 
 /// What the scripts and the test's own programs call.
-const COMMANDS: [&str; 12] = [
-    "cat", "chmod", "dirname", "find", "flock", "head", "mkdir", "readlink", "rm", "rmdir",
-    "sleep", "touch",
+const COMMANDS: [&str; 14] = [
+    "cat", "chmod", "cp", "dirname", "find", "flock", "head", "mkdir", "readlink", "rm", "rmdir",
+    "sleep", "test", "touch",
 ];
 
 /// A program that prints one line and ends as one that cleared.
@@ -35,13 +35,17 @@ fn cleared(line: &str) -> String {
     format!("echo {line}; printf 0 >&3")
 }
 
-/// The kit's build: a new clearing program, where the old one's stamp is not there.
+/// What the kit keeps of the clearing program, in the crate's folder, and its stamp.
+const KEPT: &str = "crates/clear/out/clear";
+const STAMP: &str = "crates/clear/out/clear.stamp";
+
+/// The kit's build, in the crate's folder: a new clearing program, where the old one's stamp is not
+/// there.
 const BUILDS: &str = "
-    [ ! -e target/stamp/clear ] || exit 0
-    mkdir -p target/bin
-    rm -f target/bin/clear
-    printf '%s\\n' '#!/bin/sh' 'echo new; printf 0 >&3' >target/bin/clear
-    chmod +x target/bin/clear";
+    [ ! -e out/clear.stamp ] || exit 0
+    mkdir -p out
+    printf '%s\\n' '#!/bin/sh' 'echo new; printf 0 >&3' >out/clear
+    chmod +x out/clear";
 
 struct Layout(Folder);
 
@@ -61,7 +65,16 @@ impl Layout {
         for file in [SOURCE, "crates.txt"].iter().chain(&RUST) {
             layout.0.write(file, "");
         }
-        let folders = ["crates", "crates/x", "crates/x/src"];
+        let folders = [
+            "crates",
+            "crates/x",
+            "crates/x/src",
+            "crates/clear",
+            "crates/entry",
+        ];
+        for folder in folders {
+            fs::create_dir_all(layout.path(folder)).expect("a new folder");
+        }
         let rust_folders = ["rust/src", "rust/tools", "rust/tools/src"];
         let files = ["KIT", "crates.txt", SOURCE];
         for source in [&folders[..], &rust_folders, &files, &RUST].concat() {
@@ -86,14 +99,14 @@ impl Layout {
         assert!(written.status.success(), "{}", said(&written));
     }
 
-    /// A kit that keeps a list of its calls, in the folder that it is called in.
+    /// A kit that keeps a list of its calls.
     fn kit(&self, build: &str) {
         let version = fs::read_to_string(self.path("KIT")).expect("KIT is there");
         self.kit_of(version.trim_end(), build);
     }
 
     fn kit_of(&self, version: &str, build: &str) {
-        let list = "echo \"$*\" >>calls";
+        let list = "echo \"$* ${PWD##*/}\" >>../../calls";
         let body =
             format!("[ \"$1\" != version ] || {{ echo '{version}'; exit; }}\n{list}\n{build}");
         self.executable("tools/rt", &body);
@@ -183,9 +196,9 @@ fn a_program_older_than_a_source_is_built() {
         let building = format!("clear: building: {source} is newer than the program\n");
         assert!(message.starts_with(&building), "{message}");
         assert!(message.ends_with("clear: built\n"), "{message}");
-        assert_eq!(layout.calls(), "check clear\n");
+        assert_eq!(layout.calls(), "run clear\n");
         assert_eq!(layout.clears("new"), "");
-        assert_eq!(layout.calls(), "check clear\n");
+        assert_eq!(layout.calls(), "run clear\n");
     }
 }
 
@@ -193,7 +206,8 @@ fn a_program_older_than_a_source_is_built() {
 fn a_missing_program_is_built_though_the_kit_has_its_stamp() {
     let layout = Layout::new("missing");
     layout.remove(PROGRAM);
-    layout.0.write("target/stamp/clear", "");
+    layout.executable(KEPT, &cleared("new"));
+    layout.0.write(STAMP, "");
     let message = layout.clears("new");
     assert!(message.contains("the program is missing"), "{message}");
     assert!(message.ends_with("clear: built\n"), "{message}");
@@ -207,17 +221,19 @@ fn a_build_that_changes_nothing_is_not_repeated() {
     age(&layout.path(SOURCE), 0);
     layout.clears("old");
     assert_eq!(layout.clears("old"), "");
-    assert_eq!(layout.calls(), "check clear\n");
+    assert_eq!(layout.calls(), "run clear\n");
 }
 
 #[test]
 fn a_source_edited_during_a_build_is_newer() {
     let layout = Layout::new("edited");
-    layout.kit(&format!("{BUILDS}\nsleep 0.1; touch {SOURCE}; sleep 0.1"));
+    layout.kit(&format!(
+        "{BUILDS}\nsleep 0.1; touch ../../{SOURCE}; sleep 0.1"
+    ));
     layout.remove(PROGRAM);
     layout.clears("new");
     assert!(layout.clears("new").contains(SOURCE));
-    assert_eq!(layout.calls(), "check clear\ncheck clear\n");
+    assert_eq!(layout.calls(), "run clear\nrun clear\n");
 }
 
 #[test]
@@ -235,6 +251,7 @@ fn a_program_that_cannot_be_built_is_not_run() {
     let reason = "the program is not known to be up to date, and rt";
     assert!(message.contains(reason), "{message}");
     layout.kit("true");
+    layout.remove(KEPT);
     layout.remove(PROGRAM);
     assert!(layout.clears_nothing().contains("could not be built"));
 }
@@ -252,17 +269,18 @@ fn a_program_of_a_build_that_was_killed_is_not_run() {
     layout.kit(BUILDS);
     let message = layout.clears("new");
     assert!(message.ends_with("clear: built\n"), "{message}");
-    assert_eq!(layout.calls(), "check clear\ncheck clear\n");
+    assert_eq!(layout.calls(), "run clear\nrun clear\n");
 }
 
 #[test]
 fn a_program_that_the_kit_alone_built_is_looked_at_once() {
     let layout = Layout::new("unmarked");
     layout.remove(PROGRAM_BUILT);
-    layout.0.write("target/stamp/clear", "");
+    layout.executable(KEPT, &cleared("old"));
+    layout.0.write(STAMP, "");
     layout.clears("old");
     assert_eq!(layout.clears("old"), "");
-    assert_eq!(layout.calls(), "check clear\n");
+    assert_eq!(layout.calls(), "run clear\n");
 }
 
 #[test]
@@ -320,7 +338,7 @@ fn two_at_once_build_once() {
     for output in two_at_once(&layout) {
         assert_answer(&output, 0, "new\n");
     }
-    assert_eq!(layout.calls(), "check clear\n");
+    assert_eq!(layout.calls(), "run clear\n");
 }
 
 #[test]
@@ -379,7 +397,7 @@ fn a_rust_tool_is_built_where_a_source_is_newer_and_needs_nothing_else() {
         let layout = Layout::new("tool sources");
         layout.archive();
         layout.cargo("true");
-        layout.kit(&format!("echo >{ARCHIVE}"));
+        layout.kit("mkdir -p out; echo >out/libentry.a");
         let building = "market: building: the program is missing\nmarket: built\n";
         let mut market = layout.command("market");
         assert_eq!(said_by(market.env("CLEARING_ARCHIVE", "/else")), building);
@@ -404,7 +422,7 @@ fn a_rust_tool_is_built_where_a_source_is_newer_and_needs_nothing_else() {
 fn a_rust_tool_has_a_new_archive() {
     let layout = Layout::new("archive");
     layout.cargo("true");
-    layout.kit(&format!("mkdir -p target/staticlib; echo >{ARCHIVE}"));
+    layout.kit("mkdir -p out; echo >out/libentry.a");
     let message = said_by(&mut layout.command("market"));
     assert!(message.starts_with("market: building: the archive is missing\nmarket: built\n"));
     for mark in ["target/built-market", ARCHIVE_BUILT] {
@@ -416,7 +434,7 @@ fn a_rust_tool_has_a_new_archive() {
         "{message}"
     );
     assert_eq!(said_by(&mut layout.command("market")), "");
-    assert_eq!(layout.calls(), "staticlib entry\nstaticlib entry\n");
+    assert_eq!(layout.calls(), "lib entry\nlib entry\n");
 }
 
 #[test]
