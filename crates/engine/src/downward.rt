@@ -23,22 +23,24 @@ pub fn choose(feeder: Feeder, choices: &[u8]) -> Chosen
     ensures { (own : ℕ → ℕ → ℕ) → Kept (walk_of feeder own) feeder.members choices.now 0 0 → Settled (walk_of feeder own) feeder.members result.choice result.index }
 {
     let n = wide(feeder.members);
-    let mut choice = [0u8; 32];
-    let mut index = [0usize; 32];
+    let mut chosen = Chosen {
+        choice: [0; 32],
+        index: [0; 32],
+    };
     let mut i: usize = 1;
     while i < n {
         let parent = wide(feeder.parent[i]);
-        let x = index[parent];
+        let x = chosen.index[parent];
         let at = slot(i) + x;
         let c = choices[at];
-        choice[i] = c;
+        chosen.choice[i] = c;
         let p = wide(c);
         let w = width(feeder, i);
-        index[parent] = x + (w - p);
-        index[i] = p;
+        chosen.index[parent] = x + (w - p);
+        chosen.index[i] = p;
         i += 1;
     }
-    Chosen { choice, index }
+    chosen
 }
 
 // What the member at i buys, where its index is given.

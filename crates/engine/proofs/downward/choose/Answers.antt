@@ -14,7 +14,7 @@ loop-i-init c =
 
 pub overflow_add-at : goal.overflow_add-at
 overflow_add-at c =
-    let x = get_or c.loop-i.index c.wide-parent.result 0 in
+    let x = get_or c.loop-i.chosen.index c.wide-parent.result 0 in
     let reads : (x ≤ 2480) × (c.slot.result + x < 37231) × (get_or c.args.choices.now (c.slot.result + x) 0 ≤ toward_at c.args.feeder c.loop-i.i + away_at c.args.feeder c.loop-i.i) =
     fall_fits (walk_of c.args.feeder c.requires.2.0) _ (shape c.args.feeder c.requires.2.0 c.requires.0) (c.loop-i.invariant.3 c.requires.2.0 c.requires.2.1) c.loop-i.invariant.0
     (omega (arith, c.loop-i-test.true, c.loop-i.invariant.2)) c.requires.2.1 c.wide-parent.result c.slot.result c.wide-parent.ensures c.slot.ensures in
@@ -22,23 +22,23 @@ overflow_add-at c =
 
 pub bounds-choices-at : goal.bounds-choices-at
 bounds-choices-at c =
-    let x = get_or c.loop-i.index c.wide-parent.result 0 in
+    let x = get_or c.loop-i.chosen.index c.wide-parent.result 0 in
     let reads : (x ≤ 2480) × (c.slot.result + x < 37231) × (get_or c.args.choices.now (c.slot.result + x) 0 ≤ toward_at c.args.feeder c.loop-i.i + away_at c.args.feeder c.loop-i.i) =
     fall_fits (walk_of c.args.feeder c.requires.2.0) _ (shape c.args.feeder c.requires.2.0 c.requires.0) (c.loop-i.invariant.3 c.requires.2.0 c.requires.2.1) c.loop-i.invariant.0
     (omega (arith, c.loop-i-test.true, c.loop-i.invariant.2)) c.requires.2.1 c.wide-parent.result c.slot.result c.wide-parent.ensures c.slot.ensures in
     omega (arith, reads, c.requires.1)
 
-pub overflow_sub-index : goal.overflow_sub-index
-overflow_sub-index c =
-    let x = get_or c.loop-i.index c.wide-parent.result 0 in
+pub overflow_sub-chosen : goal.overflow_sub-chosen
+overflow_sub-chosen c =
+    let x = get_or c.loop-i.chosen.index c.wide-parent.result 0 in
     let reads : (x ≤ 2480) × (c.slot.result + x < 37231) × (get_or c.args.choices.now (c.slot.result + x) 0 ≤ toward_at c.args.feeder c.loop-i.i + away_at c.args.feeder c.loop-i.i) =
     fall_fits (walk_of c.args.feeder c.requires.2.0) _ (shape c.args.feeder c.requires.2.0 c.requires.0) (c.loop-i.invariant.3 c.requires.2.0 c.requires.2.1) c.loop-i.invariant.0
     (omega (arith, c.loop-i-test.true, c.loop-i.invariant.2)) c.requires.2.1 c.wide-parent.result c.slot.result c.wide-parent.ensures c.slot.ensures in
     omega (arith, c.width-w.ensures, c.wide-p.ensures, reads.2)
 
-pub overflow_add-index : goal.overflow_add-index
-overflow_add-index c =
-    let x = get_or c.loop-i.index c.wide-parent.result 0 in
+pub overflow_add-chosen : goal.overflow_add-chosen
+overflow_add-chosen c =
+    let x = get_or c.loop-i.chosen.index c.wide-parent.result 0 in
     let reads : (x ≤ 2480) × (c.slot.result + x < 37231) × (get_or c.args.choices.now (c.slot.result + x) 0 ≤ toward_at c.args.feeder c.loop-i.i + away_at c.args.feeder c.loop-i.i) =
     fall_fits (walk_of c.args.feeder c.requires.2.0) _ (shape c.args.feeder c.requires.2.0 c.requires.0) (c.loop-i.invariant.3 c.requires.2.0 c.requires.2.1) c.loop-i.invariant.0
     (omega (arith, c.loop-i-test.true, c.loop-i.invariant.2)) c.requires.2.1 c.wide-parent.result c.slot.result c.wide-parent.ensures c.slot.ensures in

@@ -7,7 +7,7 @@ use Rattle.engine.proofs.downward.choose.Given as goal
 
 abbrev pub invariant-loop-i : goal.invariant-loop-i
 invariant-loop-i l = (1 ≤ l.i) × (l.i ≤ l.n) × (l.n ≡ l.feeder.members)
-    × ((own : ℕ → ℕ → ℕ) → Kept (walk_of l.feeder own) l.feeder.members l.choices 0 0 → Falling (walk_of l.feeder own) l.feeder.members l.choice l.index l.i)
+    × ((own : ℕ → ℕ → ℕ) → Kept (walk_of l.feeder own) l.feeder.members l.choices 0 0 → Falling (walk_of l.feeder own) l.feeder.members l.chosen.choice l.chosen.index l.i)
 
 abbrev pub decreases-loop-i : goal.decreases-loop-i
 decreases-loop-i l = l.n - l.i
