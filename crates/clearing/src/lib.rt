@@ -25,7 +25,8 @@ fn allocate(records: &[u8], feeder: Feeder, answer: &mut [u8]) -> u64
     ensures { (m : Market) → Held m feeder records.now → Outcome m answer.old result answer.new }
 {
     let solution = engine::solve(feeder, records);
-    if solution.best == 0 {
+    let impossible = solution.best == 0;
+    if impossible {
         return refusal(12, 0);
     }
     let total = rows::total_of(solution.best, feeder.members);
@@ -46,7 +47,8 @@ pub fn clear(file: &[u8], answer: &mut [u8]) -> u64
     }
     let feeder = checked.feeder;
     let size = 16 * (feeder.members as usize);
-    if answer.len() < size {
+    let short = answer.len() < size;
+    if short {
         return refusal(11, size as u16);
     }
     allocate(file, feeder, answer)

@@ -249,6 +249,7 @@ pub fn own_row(records: &[u8], j: Member, top: Units, row: &mut [u32])
 }
 
 // The sum of two cells: none where either is none.
+#[tactic(auto, using(crate::proofs::Turns::none_left, crate::proofs::Turns::none_right, crate::proofs::Turns::both))]
 fn sum(a: u32, b: u32) -> u32
     requires { (a < 2 ^ 31) × (b < 2 ^ 31) }
     ensures { result ≡ a ⊕ b }

@@ -22,15 +22,15 @@ returns-in-Refused c =
     let e = verdict_some (file_refusal f) _ _ _ (checked_verdict f _ c.market-checked.ensures) c.in-Refused.is in
     subst (λ (k : ℕ). Result f area k area) (sym c.refusal.ensures) (refused _ (file_refused f (length area) _ e))
 
-pub returns-then-answer-size : goal.returns-then-answer-size
-returns-then-answer-size c =
+pub returns-then-short : goal.returns-then-short
+returns-then-short c =
     let f : List ℕ = c.args.file.now in
     let sound : file_refusal f ≡ none = verdict_none (file_refusal f) _ (checked_verdict f _ c.market-checked.ensures) c.in_default.not-Refused in
     let held : Held (market_of f) c.market-checked.result.feeder f = checked_held f _ c.market-checked.ensures sound in
     let area : List ℕ = c.args.answer.now in
     let q : 16 * c.market-checked.result.feeder.members ≡ 16 * (market_of f).members = omega (arith, held.laid.members) in
-    subst (λ (k : ℕ). Result f area k area) (sym (c.refusal-then-answer-size.ensures ∙ ap (λ (p : ℕ). code (record { number = 11; place = p })) q))
-    (refused _ (short_refused f (length area) sound (omega (arith, q, c.if-answer-size.true))))
+    subst (λ (k : ℕ). Result f area k area) (sym (c.refusal-then-short.ensures ∙ ap (λ (p : ℕ). code (record { number = 11; place = p })) q))
+    (refused _ (short_refused f (length area) sound (omega (arith, q, c.if-short.true))))
 
 pub returns : goal.returns
 returns c =
@@ -38,7 +38,7 @@ returns c =
     let sound : file_refusal f ≡ none = verdict_none (file_refusal f) _ (checked_verdict f _ c.market-checked.ensures) c.in_default.not-Refused in
     let held : Held (market_of f) c.market-checked.result.feeder f = checked_held f _ c.market-checked.ensures sound in
     let q : 16 * c.market-checked.result.feeder.members ≡ 16 * (market_of f).members = omega (arith, held.laid.members) in
-    settled (room_none f _ sound (omega (arith, q, c.if-answer-size.false))) (c.allocate.ensures _ held)
+    settled (room_none f _ sound (omega (arith, q, c.if-short.false))) (c.allocate.ensures _ held)
 
 pub allocate-requires-clause-held : goal.allocate-requires-clause-held
 allocate-requires-clause-held c =
