@@ -25,7 +25,7 @@
 //!
 //! # Building
 //!
-//! The package links `libentry.a`, which `rt staticlib entry` writes to `target/staticlib/` of the
+//! The package links `libentry.a`, which `bin/build archive` puts into `target/staticlib/` of the
 //! checkout that this package stands in. A service that is built elsewhere names the folder of its
 //! archive in the variable `CLEARING_ARCHIVE`; it must be the archive of this version. The archive is
 //! for x86-64 Linux. One binary can hold one version of this package: the archives of two would be

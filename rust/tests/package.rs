@@ -139,6 +139,9 @@ fn an_archive_older_than_a_source_is_refused() {
         assert_refused(cargo(&folder, "rust").arg("build"), &words);
         age(&path, 200);
     }
+    folder.write("crates/x/out/kept", "");
+    age(&archive, 100);
+    assert_runs(cargo(&folder, "rust").arg("build"));
     fs::remove_dir_all(folder.path("crates")).expect("they are there");
     age(&archive, 300);
     assert_runs(cargo(&folder, "rust").arg("build"));

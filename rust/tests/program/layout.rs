@@ -218,6 +218,7 @@ fn a_missing_program_is_built_though_the_kit_has_its_stamp() {
 fn a_build_that_changes_nothing_is_not_repeated() {
     let layout = Layout::new("touched");
     layout.kit("true");
+    layout.executable(KEPT, &cleared("old"));
     age(&layout.path(SOURCE), 0);
     layout.clears("old");
     assert_eq!(layout.clears("old"), "");
