@@ -11,7 +11,9 @@ use Rattle.network.specs.inner.Laid.{Laid}
 use Rattle.market.specs.Refusals.{file_refusal}
 use Rattle.market.specs.inner.Feeders.{feeder_of, checked, checked_of}
 use Rattle.market.specs.declared.Checked.{Checked}
+use Rattle.records.specs.declared.Verdict.TheVariants as Verdict
 use Rattle.market.proofs.Laid.{file_laid}
+use Rattle.market.proofs.Verdicts.{verdict_none}
 use Rattle.clearing.specs.Promise.{too_short, refusal_of}
 use Rattle.clearing.specs.inner.Words.{Held}
 
@@ -38,6 +40,9 @@ module _ (f : List ℕ) (c : Checked) (is : c ≡ checked_of f) where
       go : (o : Option Refusal) → (checked (market_of f) o).verdict ≡ verdict_of o
       go none = refl
       go (some r) = refl
+
+  pub checked_sound : ((k p : ℕ) → c.verdict ≡ Verdict.Refused k p → ⊥) → file_refusal f ≡ none
+  checked_sound d = verdict_none (file_refusal f) c.verdict checked_verdict d
 
   -- a file that passes is held as its market's feeder
   pub checked_held : file_refusal f ≡ none → Held (market_of f) c.feeder f

@@ -2,7 +2,7 @@
 -- Assumes nothing.
 use mathlib.Core.Path.{◌≡◌, sym, ap, ap₂, ◌∙◌, subst}
 use mathlib.Core.Bool.{not}
-use mathlib.Core.List.{List}
+use mathlib.Core.List.{List, []}
 use mathlib.Core.Option.{Option, none, some}
 use Prim.Native.Nat.{ℕ, suc, ◌+◌, ◌^◌, ◌≤◌, ◌<◌}
 use native.Mathlib.Omega.{arith}
@@ -12,7 +12,7 @@ use Rattle.numbers.specs.declared.Member.{Member}
 use Rattle.numbers.specs.declared.Units.{Units}
 use Rattle.numbers.specs.inner.Held.{member, units, member_in}
 use Rattle.problem.specs.Problem.{Link, joined, walk}
-use Rattle.problem.proofs.Tree.{Within, Tree}
+use Rattle.problem.proofs.Tree.{Within, Open, Tree}
 use Rattle.problem.proofs.Steps.{walk_walked}
 use Rattle.problem.proofs.Arrange.{stops}
 use Rattle.problem.proofs.Arrange as arrange
@@ -28,6 +28,7 @@ use Rattle.market.specs.inner.Feeders.{reached_at, reached_from, position_of, ca
 use Rattle.market.specs.inner.Lines.{market_on}
 use Rattle.market.specs.declared.Checked.{Checked}
 use Rattle.market.proofs.Passes.{member_hit, member_none}
+use Rattle.market.proofs.Trees.{tree_of}
 use Rattle.market.proofs.Filled.{places_is, places_same}
 use Rattle.market.proofs.Trees.{from_le, full, member_at_lem, from_at, parent_at_lem, capacity_back}
 
@@ -50,6 +51,9 @@ module _ (n : ℕ) (ls : List Link) (p : 1 ≤ n) (few : n ≤ 32) (w : Within n
     pub apart_none : n ≤ r → apart (market_on n ls) ≡ none
     unfolding apart
     apart_none l = member_none (λ j. not (joined ls 1 j)) n r (λ k lk. ap not (all_joined ls n adj mem from count mask A W r L k lk)) l
+
+    pub tree_none : n ≤ r → Open [] ls → Tree (market_on n ls)
+    tree_none l o = tree_of (market_on n ls) p w o (apart_none l)
 
   -- all are reached
   module _ (R : Tree (market_on n ls)) where

@@ -100,6 +100,10 @@ pub record Found (f ms : List ℕ) (s : Links) (n i : ℕ) (x y : Member) (c : U
   pub more : i < n
   pub reading : Reading.Link x y c ≡ reading_of (entry_at f i)
 
+pub found_link : {f ms : List ℕ} {s : Links} {n i : ℕ} {x y : Member} {c : Units} {r : Reading} → Pass f ms s n i → i < n → r ≡ reading_of (entry_at f i) → r ≡ Reading.Link x y c
+    → Found f ms s n i x y c
+found_link P m is e = record { pass = P; more = m; reading = sym e ∙ is }
+
 module _ {f ms : List ℕ} {s : Links} {n i : ℕ} {x y : Member} {c : Units} (F : Found f ms s n i x y c) where
   fits : LinkFits (link_read x y c)
   fits = link_ranges f i n (Reading.Link x y c) F.more F.reading x y c refl

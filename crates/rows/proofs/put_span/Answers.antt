@@ -2,33 +2,44 @@
 -- gives, those from x on are as they were, and p is the span's price at cell x. Assumes nothing.
 use mathlib.Core.Path.{◌≡◌, refl, sym, ap, ◌∙◌, subst}
 use mathlib.Core.Bool.{true}
-use Prim.Native.Nat.{ℕ, ◌^◌, ◌<◌, max}
-use lib.IntN.{ℤ, pos, neg_ℤ, nat_abs, ◌-ℤ◌}
+use mathlib.Core.List.{List}
+use Prim.Native.Nat.{ℕ, ◌^◌, ◌≤◌, ◌<◌, max}
+use lib.IntN.{ℤ, pos, neg_ℤ, nat_abs, ◌+ℤ◌, ◌-ℤ◌, ◌*ℤ◌}
 use lib.ListN.{length, get_or}
+use lib.Dec.{leb, ltb}
+use lib.Signed.{le_z}
 use Rattle.numbers.specs.Whole.{within}
-use Rattle.rows.proofs.Lines.{on_line, Covered, covered, line_within, line_small, Putting, put_none, put_more, put_done}
+use Rattle.rows.specs.declared.Span.{Span}
+use Rattle.rows.proofs.Lines.{on_line, Covered, covered, line_within, line_small, Putting, put_none, put_more, put_done, Put}
 use Rattle.rows.proofs.put_span.Goals as goal
 
 pub loop-x-init : goal.loop-x-init
 loop-x-init c = λ s top e C q. put_none s top _ _ _ C _ q
 
+-- how far the row has come, by what the span's first and last cell are and the price at the first
+module _ (s : Span) (top : ℤ) (row₀ : List ℕ) {row : List ℕ} {from end x : ℕ} {u p₀ p : ℤ}
+    (S : (u ≡ top -ℤ pos from) × ((x : ℕ) → le_z (top -ℤ pos x) s.high.0 ≡ leb from x))
+    (E : (end ≤ length row₀) × ((x : ℕ) → x < length row₀ → le_z s.low.0 (top -ℤ pos x) ≡ ltb x end))
+    (P : p₀ ≡ (s.slope.0 *ℤ u) +ℤ s.base.0) (I : Put row₀ end s.slope.0 p₀ from row p x) where
+  here : Covered s top (length row₀) from end
+  here = record { starts = S.1; ends = E.1; short = E.0 }
+
+  so_far : Putting s top from x p row₀ row
+  so_far = I s top refl here (P ∙ ap (λ (z : ℤ). on_line s z) S.0)
+
+  in_span : x < end → within s.low.0 s.high.0 (top -ℤ pos x) ≡ true
+  in_span l = covered _ _ _ _ _ here _ so_far.past l
+
 pub cell_of-given-requires : goal.cell_of-given-requires
 cell_of-given-requires c =
-    let here : let a = c.args in let k = c.start_at-start.result in Covered a.s a.top.0 (length a.row.now) k.place c.cells_to-end.result = let k = c.cells_to-end.ensures in
-    record { starts = c.start_at-start.ensures.1; ends = k.1; short = k.0 } in
-    let price : c.amount-p.result.0 ≡ on_line c.args.s (c.args.top.0 -ℤ pos c.start_at-start.result.place) = c.amount-p.ensures ∙ ap (λ (z : ℤ). on_line c.args.s z) c.start_at-start.ensures.0 in
-    let so_far : let a = c.args in Putting a.s a.top.0 c.start_at-start.result.place c.loop-x.x c.loop-x.p.0 a.row.now c.loop-x.row = let a = c.args in c.loop-x.invariant a.s a.top.0 refl (here) (price) in
-    let in_span : let a = c.args in within a.s.low.0 a.s.high.0 (a.top.0 -ℤ pos c.loop-x.x) ≡ true = covered _ _ _ _ _ (here) _ (so_far).past c.loop-x-test.true in
-    ap (λ (z : ℤ). within (neg_ℤ (pos 1000000)) (pos 1000000) z) so_far.price ∙ line_within c.args.s _ in_span c.requires
+    let h = so_far c.args.s c.args.top.0 c.args.row.now c.start_at-start.ensures c.cells_to-end.ensures c.amount-p.ensures c.loop-x.invariant in
+    ap (λ (z : ℤ). within (neg_ℤ (pos 1000000)) (pos 1000000) z) h.price
+    ∙ line_within c.args.s _ (in_span c.args.s c.args.top.0 c.args.row.now c.start_at-start.ensures c.cells_to-end.ensures c.amount-p.ensures c.loop-x.invariant c.loop-x-test.true) c.requires
 
 pub less-next-requires : goal.less-next-requires
 less-next-requires c =
-    let here : let a = c.args in let k = c.start_at-start.result in Covered a.s a.top.0 (length a.row.now) k.place c.cells_to-end.result = let k = c.cells_to-end.ensures in
-    record { starts = c.start_at-start.ensures.1; ends = k.1; short = k.0 } in
-    let price : c.amount-p.result.0 ≡ on_line c.args.s (c.args.top.0 -ℤ pos c.start_at-start.result.place) = c.amount-p.ensures ∙ ap (λ (z : ℤ). on_line c.args.s z) c.start_at-start.ensures.0 in
-    let so_far : let a = c.args in Putting a.s a.top.0 c.start_at-start.result.place c.loop-x.x c.loop-x.p.0 a.row.now c.loop-x.row = let a = c.args in c.loop-x.invariant a.s a.top.0 refl (here) (price) in
-    let in_span : let a = c.args in within a.s.low.0 a.s.high.0 (a.top.0 -ℤ pos c.loop-x.x) ≡ true = covered _ _ _ _ _ (here) _ (so_far).past c.loop-x-test.true in
-    subst (λ (z : ℤ). nat_abs z < 2 ^ 62) (sym so_far.price) (line_small c.args.s _ in_span c.requires)
+    let h = so_far c.args.s c.args.top.0 c.args.row.now c.start_at-start.ensures c.cells_to-end.ensures c.amount-p.ensures c.loop-x.invariant in
+    subst (λ (z : ℤ). nat_abs z < 2 ^ 62) (sym h.price) (line_small c.args.s _ (in_span c.args.s c.args.top.0 c.args.row.now c.start_at-start.ensures c.cells_to-end.ensures c.amount-p.ensures c.loop-x.invariant c.loop-x-test.true) c.requires)
 
 pub loop-x-preserved : goal.loop-x-preserved
 loop-x-preserved c =
@@ -38,8 +49,5 @@ loop-x-preserved c =
 
 pub returns : goal.returns
 returns c =
-    let here : let a = c.args in let k = c.start_at-start.result in Covered a.s a.top.0 (length a.row.now) k.place c.cells_to-end.result = let k = c.cells_to-end.ensures in
-    record { starts = c.start_at-start.ensures.1; ends = k.1; short = k.0 } in
-    let price : c.amount-p.result.0 ≡ on_line c.args.s (c.args.top.0 -ℤ pos c.start_at-start.result.place) = c.amount-p.ensures ∙ ap (λ (z : ℤ). on_line c.args.s z) c.start_at-start.ensures.0 in
-    let so_far : let a = c.args in Putting a.s a.top.0 c.start_at-start.result.place c.loop-x.x c.loop-x.p.0 a.row.now c.loop-x.row = let a = c.args in c.loop-x.invariant a.s a.top.0 refl (here) (price) in
-    put_done _ _ _ _ _ here _ _ _ so_far c.loop-x-test.false
+    let here_is = here c.args.s c.args.top.0 c.args.row.now c.start_at-start.ensures c.cells_to-end.ensures c.amount-p.ensures c.loop-x.invariant in
+    put_done _ _ _ _ _ here_is _ _ _ (so_far c.args.s c.args.top.0 c.args.row.now c.start_at-start.ensures c.cells_to-end.ensures c.amount-p.ensures c.loop-x.invariant) c.loop-x-test.false

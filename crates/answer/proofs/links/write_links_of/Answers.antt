@@ -2,7 +2,7 @@
 use borrow.Author.Rules.{rules}
 use native.Mathlib.Omega.{arith}
 use mathlib.Core.Path.{◌≡◌, refl, sym, ap, ◌∙◌}
-use Prim.Native.Nat.{ℕ, ◌+◌, ◌≤◌, ◌<◌}
+use Prim.Native.Nat.{ℕ, ◌+◌, ◌≤◌}
 use mathlib.Core.List.{List}
 use lib.ListN.{length, length-take, length-drop}
 use lib.IntN.{ℤ, nat_abs}
@@ -34,24 +34,17 @@ loop-i-preserved-in_default c =
 
 pub bounds-feeder-reached : goal.bounds-feeder-reached
 bounds-feeder-reached c =
-    let f = c.args.feeder in
-    let q = c.requires in
-    let inside : c.in-Over.reached < f.members = joint_inside _ _ _ _ _ c.link_between.ensures q.feeder.1.inside _ _ c.in-Over.is in
-    omega (arith, inside, q.feeder.0.few)
+    omega (arith, joint_inside _ _ _ _ _ c.link_between.ensures c.requires.feeder.1.inside _ _ c.in-Over.is, c.requires.feeder.0.few)
 
 pub bounds-sent-reached : goal.bounds-sent-reached
 bounds-sent-reached c =
-    let f = c.args.feeder in
-    let q = c.requires in
-    let inside : c.in-Over.reached < f.members = joint_inside _ _ _ _ _ c.link_between.ensures q.feeder.1.inside _ _ c.in-Over.is in
-    omega (arith, inside, q.feeder.0.few)
+    omega (arith, joint_inside _ _ _ _ _ c.link_between.ensures c.requires.feeder.1.inside _ _ c.in-Over.is, c.requires.feeder.0.few)
 
 pub from_lower-flow-requires : goal.from_lower-flow-requires
 from_lower-flow-requires c =
-    let f = c.args.feeder in
     let q = c.requires in
-    let inside : c.in-Over.reached < f.members = joint_inside _ _ _ _ _ c.link_between.ensures q.feeder.1.inside _ _ c.in-Over.is in
-    omega (arith, q.feeder.2 c.in-Over.reached inside, (q.feeder.0.toward c.in-Over.reached).1)
+    let in_feeder = joint_inside _ _ _ _ _ c.link_between.ensures q.feeder.1.inside _ _ c.in-Over.is in
+    omega (arith, q.feeder.2 c.in-Over.reached in_feeder, (q.feeder.0.toward c.in-Over.reached).1)
 
 -- the record of the link to the next member, and the room for it
 next : (f : Feeder) (position : List ℕ) (sent : List Units) (a b i reached : ℕ) (lower : Bool) (y : ℤ) (joint : Joint) → joint ≡ joint_of f.parent position a b → joint ≡ Joint.Over reached lower
@@ -64,14 +57,14 @@ pub put_link-requires : goal.put_link-requires
 put_link-requires c =
     let f = c.args.feeder in
     let q = c.requires in
-    let inside : c.in-Over.reached < f.members = joint_inside _ _ _ _ _ c.link_between.ensures q.feeder.1.inside _ _ c.in-Over.is in
+    let in_feeder = joint_inside _ _ _ _ _ c.link_between.ensures q.feeder.1.inside _ _ c.in-Over.is in
     let by : ℕ → List ℕ = link_by f c.args.position c.args.sent c.args.a.0 in
     let record_is = next f c.args.position c.args.sent c.args.a.0 c.at-b.result.0 c.loop-i.i c.in-Over.reached c.in-Over.lower c.from_lower-flow.result.0 _ c.link_between.ensures c.in-Over.is c.at-b.ensures c.from_lower-flow.ensures in
     let room : c.loop-i.at + 8 ≤ length c.args.out.now =
     omega (arith, ap length record_is ∙ link_8 _ _, filled_next by c.args.out.now f.members c.loop-i.invariant.2 (omega (arith, c.loop-i-test.true)) q.room.2) in (
       simp (length-take, length-drop) (omega (arith, room, c.loop-i.invariant.4)),
       (q.feeder.0.toward c.in-Over.reached).1,
-      omega (arith, q.feeder.2 c.in-Over.reached inside, ap nat_abs c.from_lower-flow.ensures, size_from_lower c.in-Over.lower (units_in c.args.sent c.in-Over.reached)),
+      omega (arith, q.feeder.2 c.in-Over.reached in_feeder, ap nat_abs c.from_lower-flow.ensures, size_from_lower c.in-Over.lower (units_in c.args.sent c.in-Over.reached)),
     )
 
 pub loop-i-preserved : goal.loop-i-preserved

@@ -1,6 +1,7 @@
 -- `neighbours` meets its contract, one line a turn. The measure is the number of lines left. Assumes nothing.
 use mathlib.Core.Path.{refl, subst}
-use Prim.Native.Nat.{◌+◌, ◌≤◌, ◌<◌, ◌-◌}
+use mathlib.Core.List.{List}
+use Prim.Native.Nat.{ℕ, ◌+◌, ◌≤◌, ◌<◌, ◌-◌}
 use lib.ListN.{get_or, replicate, get_or-replicate}
 use Rattle.problem.proofs.Tree.{Within}
 use Rattle.network.proofs.Near.{Near, near_none, near_done}
@@ -16,32 +17,31 @@ loop-e-init c =
     let s = c.args.links in
     (refl, omega arith, refl, subst (Within 32) (kept_all s) c.requires.within, subst (Near (kept s) (replicate 32 0)) (kept_all s) (near_none (kept s) (replicate 32 0) (λ v l. get_or-replicate 32 v 0 0 l)))
 
+-- the ends of line e, and the lines after it
+ends : (s : List Line) (e n : ℕ) → e < n → Within 32 (kept_from s e (n - e))
+    → ((1 ≤ (get_or s e no_line).a.0) × ((get_or s e no_line).a.0 < (get_or s e no_line).b.0) × ((get_or s e no_line).b.0 ≤ 32)) × Within 32 (kept_from s (e + 1) (n - (e + 1)))
+ends s e n h w = subst (Within 32) (kept_rest s e n h) w
+
 pub index-requires : goal.index-requires
 index-requires c =
-    let line : Line = get_or c.args.links.line c.loop-e.e no_line in
-    let ends : ((1 ≤ line.a.0) × (line.a.0 < line.b.0) × (line.b.0 ≤ 32)) × Within 32 (kept_from c.args.links.line (c.loop-e.e + 1) (c.args.links.count - (c.loop-e.e + 1))) = subst (Within 32) (kept_rest _ _ _ c.loop-e-test.true) c.loop-e.invariant.3 in
-    ends.0.0
+    let e = ends c.args.links.line c.loop-e.e c.args.links.count c.loop-e-test.true c.loop-e.invariant.3 in
+    e.0.0
 
 pub index-requires-in-loop-e : goal.index-requires-in-loop-e
 index-requires-in-loop-e c =
-    let line : Line = get_or c.args.links.line c.loop-e.e no_line in
-    let ends : ((1 ≤ line.a.0) × (line.a.0 < line.b.0) × (line.b.0 ≤ 32)) × Within 32 (kept_from c.args.links.line (c.loop-e.e + 1) (c.args.links.count - (c.loop-e.e + 1))) = subst (Within 32) (kept_rest _ _ _ c.loop-e-test.true) c.loop-e.invariant.3 in
-    omega (arith, ends.0)
+    let e = ends c.args.links.line c.loop-e.e c.args.links.count c.loop-e-test.true c.loop-e.invariant.3 in
+    omega (arith, e.0)
 
 pub linked-next-requires : goal.linked-next-requires
 linked-next-requires c =
-    let line : Line = get_or c.args.links.line c.loop-e.e no_line in
-    let ends : ((1 ≤ line.a.0) × (line.a.0 < line.b.0) × (line.b.0 ≤ 32)) × Within 32 (kept_from c.args.links.line (c.loop-e.e + 1) (c.args.links.count - (c.loop-e.e + 1))) = subst (Within 32) (kept_rest _ _ _ c.loop-e-test.true) c.loop-e.invariant.3 in
-    let f = ends.0 in
-    (omega (arith, f, c.index.ensures), omega (arith, f, c.index-in-loop-e.ensures))
+    let e = ends c.args.links.line c.loop-e.e c.args.links.count c.loop-e-test.true c.loop-e.invariant.3 in
+    (omega (arith, e.0, c.index.ensures), omega (arith, e.0, c.index-in-loop-e.ensures))
 
 pub loop-e-preserved : goal.loop-e-preserved
 loop-e-preserved c =
-    let line : Line = get_or c.args.links.line c.loop-e.e no_line in
-    let ends : ((1 ≤ line.a.0) × (line.a.0 < line.b.0) × (line.b.0 ≤ 32)) × Within 32 (kept_from c.args.links.line (c.loop-e.e + 1) (c.args.links.count - (c.loop-e.e + 1))) = subst (Within 32) (kept_rest _ _ _ c.loop-e-test.true) c.loop-e.invariant.3 in
+    let e = ends c.args.links.line c.loop-e.e c.args.links.count c.loop-e-test.true c.loop-e.invariant.3 in
     let l = c.loop-e in
-    let f = ends in
-    (refl, omega arith, search rules, f.1, near_more _ _ l.adj _ line _ _ c.index.ensures c.index-in-loop-e.ensures c.linked-next.ensures l.invariant.2 f.0 (subst (Near _ l.adj) (kept_rest _ _ _ c.loop-e-test.true) l.invariant.4))
+    (refl, omega arith, search rules, e.1, near_more _ _ l.adj _ (get_or c.args.links.line l.e no_line) _ _ c.index.ensures c.index-in-loop-e.ensures c.linked-next.ensures l.invariant.2 e.0 (subst (Near _ l.adj) (kept_rest _ _ _ c.loop-e-test.true) l.invariant.4))
 
 pub returns : goal.returns
 returns c =

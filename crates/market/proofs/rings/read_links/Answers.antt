@@ -6,7 +6,7 @@ use Prim.Native.Nat.{◌<◌, ◌/◌}
 use lib.ListN.{length}
 use Rattle.market.specs.inner.Cases.{place_of}
 use Rattle.network.proofs.Merges.{searched_none, searched_more}
-use Rattle.market.proofs.Scan.{pass_start, pass_end, pass_skip, Found, line_fits, ends_in, pass_hit, room, pass_link}
+use Rattle.market.proofs.Scan.{pass_start, pass_end, pass_skip, found_link, line_fits, ends_in, pass_hit, room, pass_link}
 use borrow.Author.Rules.{rules}
 use native.Mathlib.Omega.{arith}
 use Rattle.market.proofs.rings.read_links.Goals as goal
@@ -22,47 +22,27 @@ scan-preserved-in_default c =
 
 pub index-a-requires : goal.index-a-requires
 index-a-requires c =
-    let found : Found c.args.file.now c.scan.parts c.scan.links (length c.args.file.now / 8) c.scan.i c.in-Link.x c.in-Link.y c.in-Link.c = record {
-      pass = c.scan.invariant.3;
-      more = omega (arith, c.if-i-n.false, c.scan.invariant.0);
-      reading = sym c.in-Link.is ∙ c.read_at-r.ensures;
-    } in
+    let found = found_link c.scan.invariant.3 (omega (arith, c.if-i-n.false, c.scan.invariant.0)) c.read_at-r.ensures c.in-Link.is in
     (line_fits found).low
 
 pub index-b-requires : goal.index-b-requires
 index-b-requires c =
-    let found : Found c.args.file.now c.scan.parts c.scan.links (length c.args.file.now / 8) c.scan.i c.in-Link.x c.in-Link.y c.in-Link.c = record {
-      pass = c.scan.invariant.3;
-      more = omega (arith, c.if-i-n.false, c.scan.invariant.0);
-      reading = sym c.in-Link.is ∙ c.read_at-r.ensures;
-    } in
+    let found = found_link c.scan.invariant.3 (omega (arith, c.if-i-n.false, c.scan.invariant.0)) c.read_at-r.ensures c.in-Link.is in
     let l = line_fits found in omega (arith, l.low, l.below)
 
 pub only-requires : goal.only-requires
 only-requires c =
-    let found : Found c.args.file.now c.scan.parts c.scan.links (length c.args.file.now / 8) c.scan.i c.in-Link.x c.in-Link.y c.in-Link.c = record {
-      pass = c.scan.invariant.3;
-      more = omega (arith, c.if-i-n.false, c.scan.invariant.0);
-      reading = sym c.in-Link.is ∙ c.read_at-r.ensures;
-    } in
+    let found = found_link c.scan.invariant.3 (omega (arith, c.if-i-n.false, c.scan.invariant.0)) c.read_at-r.ensures c.in-Link.is in
     (ends_in found c.index-a.ensures c.index-b.ensures).0
 
 pub only-requires-in-scan : goal.only-requires-in-scan
 only-requires-in-scan c =
-    let found : Found c.args.file.now c.scan.parts c.scan.links (length c.args.file.now / 8) c.scan.i c.in-Link.x c.in-Link.y c.in-Link.c = record {
-      pass = c.scan.invariant.3;
-      more = omega (arith, c.if-i-n.false, c.scan.invariant.0);
-      reading = sym c.in-Link.is ∙ c.read_at-r.ensures;
-    } in
+    let found = found_link c.scan.invariant.3 (omega (arith, c.if-i-n.false, c.scan.invariant.0)) c.read_at-r.ensures c.in-Link.is in
     (ends_in found c.index-a.ensures c.index-b.ensures).1
 
 pub loop-e-init : goal.loop-e-init
 loop-e-init c =
-    let found : Found c.args.file.now c.scan.parts c.scan.links (length c.args.file.now / 8) c.scan.i c.in-Link.x c.in-Link.y c.in-Link.c = record {
-      pass = c.scan.invariant.3;
-      more = omega (arith, c.if-i-n.false, c.scan.invariant.0);
-      reading = sym c.in-Link.is ∙ c.read_at-r.ensures;
-    } in
+    let found = found_link c.scan.invariant.3 (omega (arith, c.if-i-n.false, c.scan.invariant.0)) c.read_at-r.ensures c.in-Link.is in
     (search rules, search rules, found, c.index-a.ensures, c.index-b.ensures, searched_none _ _ _ _ _ _ c.only.ensures c.only-in-scan.ensures c.join-m.ensures)
 
 pub holds_both-requires : goal.holds_both-requires

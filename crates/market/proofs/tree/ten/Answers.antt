@@ -1,13 +1,9 @@
 -- `ten` meets its contract: where a member is not reached that is refusal 10, else the arrays of the walk are the market's. Assumes
 -- nothing.
-use mathlib.Core.Path.{◌≡◌, ◌∙◌, ap}
-use mathlib.Core.Option.{none}
-use Rattle.problem.proofs.Tree.{Tree}
-use Rattle.market.specs.Refusals.{apart}
+use mathlib.Core.Path.{◌∙◌, ap}
 use Rattle.market.specs.inner.Feeders.{checked}
-use Rattle.market.specs.inner.Lines.{kept, market_on}
-use Rattle.market.proofs.Trees.{tree_of}
-use Rattle.market.proofs.Arrays.{mask_small, apart_some, apart_none, from_in, laid_is}
+use Rattle.market.specs.inner.Lines.{kept}
+use Rattle.market.proofs.Arrays.{mask_small, apart_some, apart_none, tree_none, from_in, laid_is}
 use Rattle.market.proofs.Verdicts.{refused_is}
 use borrow.Author.Rules.{rules}
 use Rattle.market.proofs.tree.ten.Goals as goal
@@ -27,19 +23,17 @@ returns-then-missing-size c =
 
 pub carried-most-requires : goal.carried-most-requires
 carried-most-requires c =
-    let none_apart : apart (market_on c.args.n.0 (kept c.args.links)) ≡ none = let s = c.requires in
-    apart_none _ _ s.1 s.2 s.3 _ c.walk-walked.result.member c.walk-walked.result.parent _ _ c.neighbours.ensures c.walk-walked.ensures.0 _ c.lowest_missing-missing.ensures
-    c.if-missing-size.false in
-    let on_tree : Tree (market_on c.args.n.0 (kept c.args.links)) = let s = c.requires in tree_of _ s.1 s.3 s.4 (none_apart) in
-    let s = c.requires in
-    (s.0, s.2, from_in _ _ s.1 s.2 s.3 _ c.walk-walked.result.member c.walk-walked.result.parent _ _ c.neighbours.ensures c.walk-walked.ensures.0 on_tree)
+    let s = c.requires in (
+      s.0,
+      s.2,
+      from_in _ _ s.1 s.2 s.3 _ c.walk-walked.result.member c.walk-walked.result.parent _ _ c.neighbours.ensures c.walk-walked.ensures.0
+          (tree_none _ _ s.1 s.2 s.3 _ c.walk-walked.result.member c.walk-walked.result.parent _ _ c.neighbours.ensures c.walk-walked.ensures.0 _ c.lowest_missing-missing.ensures c.if-missing-size.false s.4),
+    )
 
 pub returns : goal.returns
 returns c =
-    let none_apart : apart (market_on c.args.n.0 (kept c.args.links)) ≡ none = let s = c.requires in
-    apart_none _ _ s.1 s.2 s.3 _ c.walk-walked.result.member c.walk-walked.result.parent _ _ c.neighbours.ensures c.walk-walked.ensures.0 _ c.lowest_missing-missing.ensures
-    c.if-missing-size.false in
-    let on_tree : Tree (market_on c.args.n.0 (kept c.args.links)) = let s = c.requires in tree_of _ s.1 s.3 s.4 (none_apart) in
     let s = c.requires in
-    laid_is _ _ s.1 s.2 s.3 _ c.walk-walked.result.member c.walk-walked.result.parent _ _ c.neighbours.ensures c.walk-walked.ensures.0 on_tree _ none_apart
+    laid_is _ _ s.1 s.2 s.3 _ c.walk-walked.result.member c.walk-walked.result.parent _ _ c.neighbours.ensures c.walk-walked.ensures.0
+    (tree_none _ _ s.1 s.2 s.3 _ c.walk-walked.result.member c.walk-walked.result.parent _ _ c.neighbours.ensures c.walk-walked.ensures.0 _ c.lowest_missing-missing.ensures c.if-missing-size.false s.4)
+    _ (apart_none _ _ s.1 s.2 s.3 _ c.walk-walked.result.member c.walk-walked.result.parent _ _ c.neighbours.ensures c.walk-walked.ensures.0 _ c.lowest_missing-missing.ensures c.if-missing-size.false)
     (search rules) (search rules) c.walk-walked.ensures.1 c.walk-walked.ensures.2 c.carried-most.ensures
