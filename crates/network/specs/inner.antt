@@ -1,3 +1,4 @@
+pub mod Positions
 pub mod Feeders
 pub mod Laid
 pub mod Sets
