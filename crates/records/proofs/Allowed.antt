@@ -1,6 +1,6 @@
 -- A refusal of a file or an area is one that the table allows: its number is one of theirs, and its place has 16 bits, so that the
 -- number returned tells both. Here of refusals 1 to 4, 13 and 14, and of any that are tried one after the other. Assumes nothing.
-use mathlib.Core.Path.{◌≡◌, refl, sym, ap, ◌∙◌, subst}
+use mathlib.Core.Path.{◌≡◌, refl, sym, ap, ap₂, ◌∙◌, subst}
 use mathlib.Core.Bool.{Bool, true, false, ◌&&◌, ◌||◌}
 use mathlib.Core.List.{List, ◌∷◌}
 use mathlib.Core.Logic.{inl, inr}
@@ -9,7 +9,12 @@ use Prim.Native.Nat.{ℕ, zero, suc, ◌+◌, ◌/◌, ◌≤◌, ◌<◌}
 use native.Mathlib.Omega.{arith}
 use lib.Dec.{eqb, ltb}
 use lib.ListN.{length}
-use Rattle.numbers.proofs.Tests.{true_false}
+use borrow.Author.Tests.{lt-ltb, le-ltb, ne_eqb, ltb-true, ltb-false}
+use Rattle.std.specs.Prelude.{Ok, Err}
+use Rattle.numbers.proofs.Tests.{bool_cases, true_false}
+use Rattle.records.specs.declared.Refusal as D
+use Rattle.records.specs.inner.Cases.{number_of, rule_of, refusal_of, refusal_in, unless}
+use Rattle.records.proofs.Rules.{number_of_rule}
 use Rattle.records.specs.Records.{Entry, entry_at, entries_from, entries}
 use Rattle.records.specs.Records.Entry.{link, offer, begins, fault}
 use Rattle.records.specs.Refusals.{Refusal, refusal, ◌otherwise◌, place_if, too_long, not_whole, faulty, unsound}
@@ -82,3 +87,38 @@ unsound_allowed f =
     (λ e.
     first_allowed _ _ (refusal_allowed _ _ refl (placed_if _ _ (λ t. omega arith)))
     (λ e2. faulty_allowed f 0 (length f / 8) (omega (arith, short_file f e))))
+
+-- ---- the numbers that refusals have are numbers of rules
+listed_high : (n : ℕ) → 14 < n → listed n ≡ false
+listed_high n h =
+    simp (
+      lt-ltb 0 n (omega (arith, h)),
+      lt-ltb 8 n (omega (arith, h)),
+      le-ltb n 8 (omega (arith, h)),
+      le-ltb n 12 (omega (arith, h)),
+      ne_eqb n 13 (λ q. omega (arith, h, q)),
+      ne_eqb n 14 (λ q. omega (arith, h, q)),
+    ) refl
+
+pub listed_number : (n : ℕ) → listed n ≡ true → number_of (rule_of n) ≡ n
+listed_number n e =
+    number_of_rule n (bool_cases (ltb 0 n) (λ b. 1 ≤ n) (λ t. omega (arith, ltb-true 0 n t)) (λ t. absurd (other 0 (omega (arith, ltb-false 0 n t)) refl)))
+    (bool_cases (ltb 14 n) (λ b. n ≤ 14) (λ t. absurd (true_false (sym e ∙ listed_high n (ltb-true 14 n t)))) (λ t. ltb-false 14 n t))
+    (λ q. other 8 q refl)
+  where
+    other : (k : ℕ) → n ≡ k → listed k ≡ false → ⊥
+    other k q f = true_false (sym e ∙ ap listed q ∙ f)
+
+-- ---- what an error says of the refusal that it stands for, and no error
+module _ {A : Type 0} (x : A) where
+  pub error_is : (o : Option Refusal) → IfAllowed o → (r : D.Refusal) → unless x o ≡ Err r → o ≡ some (refusal_in r)
+  unfolding unless refusal_in refusal_of
+  error_is none h r e = cc (e)
+  error_is (some f) h r e =
+      let q : refusal_of f ≡ r = cc (e) in
+      ap some (ap₂ {C = Refusal} (λ (k p : ℕ). record { number = k; place = p }) (sym (listed_number f.number (h f refl).number) ∙ ap (λ (s : D.Refusal). number_of s.rule) q) (ap (λ (s : D.Refusal). s.place) q))
+
+  pub ok_is : (o : Option Refusal) (y : A) → unless x o ≡ Ok y → (o ≡ none) × (x ≡ y)
+  unfolding unless
+  ok_is none y e = (refl, cc (e))
+  ok_is (some f) y e = cc (e)

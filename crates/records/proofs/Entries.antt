@@ -1,6 +1,7 @@
 -- Laws on a file's records: what is left from a place on, what a reading says of its record, which numbers a record has,
 -- and what a sound file's records are. Assumes nothing.
-use mathlib.Core.Path.{◌≡◌, refl, sym, ap, ◌∙◌}
+use mathlib.Core.Path.{◌≡◌, refl, sym, ap, ◌∙◌, subst}
+use Rattle.std.specs.Prelude.{Result, Ok, Err}
 use mathlib.Core.Bool.{Bool, true, false, cond, not, ◌&&◌, ◌||◌}
 use mathlib.Core.List.{List, [], ◌∷◌}
 use mathlib.Core.Logic.{◌⊎◌, inl, inr}
@@ -21,11 +22,13 @@ use Rattle.problem.specs.Problem.{Link, Offer, worth}
 use Rattle.problem.proofs.Prices.{Limited}
 use Rattle.problem.proofs.Spans.{point_limited, span_limited}
 use Rattle.records.specs.declared.Terms.{Terms}
-use Rattle.records.specs.declared.Reading.{Reading}
+use Rattle.records.specs.declared.Record.{Record}
+use Rattle.records.specs.declared.Rule.{Rule}
 use Rattle.records.specs.Records.{Entry, byte, two, units_at, number_at, is_member, is_units, is_price, fields_fit, link_of, point_of, unfinished, unbegun, bad_span, span_of, link_at, point_at, begin_at, span_at, entry_at, entries_from, entries}
 use Rattle.records.specs.Records.Entry.{link, offer, begins, fault}
 use Rattle.records.specs.Refusals.{Refusal, refusal, ◌otherwise◌, place_if, file_limit, too_long, faulty, unsound}
-use Rattle.records.specs.inner.Cases.{terms_of, terms_in, reading_of}
+use Rattle.records.proofs.Rules.{rule_of_number}
+use Rattle.records.specs.inner.Cases.{terms_of, terms_in, number_of, rule_of, refusal_of, reading_of, unless, verdict_of}
 
 -- ---- the records from i on, of n: record i and those from i + 1 on, or none
 pub rest : (f : List ℕ) (i n : ℕ) → i < n → entries_from f i (n - i) ≡ entry_at f i ∷ entries_from f (i + 1) (n - (i + 1))
@@ -43,59 +46,63 @@ ended f i n h = rw (end) refl
     end = omega arith
 
 -- ---- what a reading says of its record
-unfoldable record_of : Reading → Entry
-record_of (Reading.Link a b c) = link (record { a = a.0; b = b.0; capacity = nat_abs c.0 })
-record_of (Reading.Offer j t) = offer (record { member = j.0; terms = terms_in t })
-record_of (Reading.Begins j) = begins j.0
-record_of (Reading.Fault k) = fault k
+unfoldable record_of : Result Record Rule → Entry
+record_of (Ok (Record.Link a b c)) = link (record { a = a.0; b = b.0; capacity = nat_abs c.0 })
+record_of (Ok (Record.Offer j t)) = offer (record { member = j.0; terms = terms_in t })
+record_of (Ok (Record.Begins j)) = begins j.0
+record_of (Err r) = fault (number_of r)
 
 terms_is : (t : P.Terms) → terms_in (terms_of t) ≡ t
 unfolding terms_in terms_of
 terms_is (P.Terms.point x p) = refl
 terms_is (P.Terms.span l u a b) = refl
 
-record_is : (e : Entry) → e ≡ record_of (reading_of e)
+record_is : (e : Entry) → ((k : ℕ) → e ≡ fault k → number_of (rule_of k) ≡ k) → e ≡ record_of (reading_of e)
 unfolding record_of reading_of
-record_is (link l) = refl
-record_is (offer o) = ap (λ (t : P.Terms). offer (record { member = o.member; terms = t })) (sym (terms_is o.terms))
-record_is (begins j) = refl
-record_is (fault k) = refl
+record_is (link l) h = refl
+record_is (offer o) h = ap (λ (t : P.Terms). offer (record { member = o.member; terms = t })) (sym (terms_is o.terms))
+record_is (begins j) h = refl
+record_is (fault k) h = ap fault (sym (h k refl))
 
-module _ (e : Entry) (a b : Member) (c : Units) (is : reading_of e ≡ Reading.Link a b c) where
+-- a reading that is no refusal
+read_is : (e : Entry) (x : Record) → reading_of e ≡ Ok x → e ≡ record_of (Ok x)
+unfolding reading_of
+read_is e x is = record_is e (λ k q. absurd (never (sym (ap reading_of q) ∙ is))) ∙ ap record_of is
+  where
+    never : {r : Rule} → Err r ≡ Ok x → ⊥
+    never q = cc (q)
+
+module _ (e : Entry) (a b : Member) (c : Units) (is : reading_of e ≡ Ok (Record.Link a b c)) where
   pub link_is : e ≡ link (record { a = a.0; b = b.0; capacity = nat_abs c.0 })
   unfolding record_of
-  link_is = record_is e ∙ ap record_of is
+  link_is = read_is e _ is
 
   pub link_units : c.0 ≡ pos (nat_abs c.0)
   unfolding reading_of
   link_units =
-      let q : Reading.Link a b c ≡ reading_of (link (record { a = a.0; b = b.0; capacity = nat_abs c.0 })) = sym is ∙ ap reading_of link_is in
+      let q : Ok (Record.Link a b c) ≡ reading_of (link (record { a = a.0; b = b.0; capacity = nat_abs c.0 })) = sym is ∙ ap reading_of link_is in
       let p : c ≡ record { 0 = pos (nat_abs c.0) } = cc (q) in
       ap (λ (u : Units). u.0) p
 
-pub offer_is : (e : Entry) (j : Member) (t : Terms) → reading_of e ≡ Reading.Offer j t → e ≡ offer (record { member = j.0; terms = terms_in t })
+pub offer_is : (e : Entry) (j : Member) (t : Terms) → reading_of e ≡ Ok (Record.Offer j t) → e ≡ offer (record { member = j.0; terms = terms_in t })
 unfolding record_of
-offer_is e j t is = record_is e ∙ ap record_of is
+offer_is e j t is = read_is e _ is
 
-pub begins_is : (e : Entry) (j : Member) → reading_of e ≡ Reading.Begins j → e ≡ begins j.0
+pub begins_is : (e : Entry) (j : Member) → reading_of e ≡ Ok (Record.Begins j) → e ≡ begins j.0
 unfolding record_of
-begins_is e j is = record_is e ∙ ap record_of is
-
-pub fault_is : (e : Entry) (k : ℕ) → reading_of e ≡ Reading.Fault k → e ≡ fault k
-unfolding record_of
-fault_is e k is = record_is e ∙ ap record_of is
+begins_is e j is = read_is e _ is
 
 -- a reading that is another case is that of another record
-module _ (r : Reading) (e : Entry) (is : r ≡ reading_of e) where
-  pub not_link : ((a b : Member) (c : Units) → r ≡ Reading.Link a b c → ⊥) → (l : Link) → e ≡ link l → ⊥
+module _ (r : Result Record Rule) (e : Entry) (is : r ≡ reading_of e) where
+  pub not_link : ((a b : Member) (c : Units) → r ≡ Ok (Record.Link a b c) → ⊥) → (l : Link) → e ≡ link l → ⊥
   unfolding reading_of
   not_link d l h = d _ _ _ (is ∙ ap reading_of h)
 
-  pub not_offer : ((j : Member) (t : Terms) → r ≡ Reading.Offer j t → ⊥) → (o : Offer) → e ≡ offer o → ⊥
+  pub not_offer : ((j : Member) (t : Terms) → r ≡ Ok (Record.Offer j t) → ⊥) → (o : Offer) → e ≡ offer o → ⊥
   unfolding reading_of
   not_offer d o h = d _ _ (is ∙ ap reading_of h)
 
-  pub not_fault : ((k : ℕ) → r ≡ Reading.Fault k → ⊥) → (k : ℕ) → e ≡ fault k → ⊥
+  pub not_fault : ((k : Rule) → r ≡ Err k → ⊥) → (k : ℕ) → e ≡ fault k → ⊥
   unfolding reading_of
   not_fault d k h = d _ (is ∙ ap reading_of h)
 
@@ -258,18 +265,33 @@ faulty_on i (offer o) es h = rw (add-one i)
 faulty_on i (begins j) es h = rw (add-one i)
 faulty_on i (fault k) es h = absurd (h k refl)
 
+-- a record that is read as a refusal
+pub fault_is : (e : Entry) → Fits e → (r : Rule) → reading_of e ≡ Err r → e ≡ fault (number_of r)
+unfolding record_of rule_of number_of
+fault_is e h r is = record_is e (λ k q. given k (subst Fits q h)) ∙ ap record_of is
+  where
+    given : (k : ℕ) → Fits (fault k) → number_of (rule_of k) ≡ k
+    given k (inl q) = rw q refl
+    given k (inr (inl q)) = rw q refl
+    given k (inr (inr (inl q))) = rw q refl
+    given k (inr (inr (inr q))) = rw q refl
+
 -- the pass at record i, of n; r is its reading
 module _ (f : List ℕ) (i n : ℕ) where
   pub none_left : n ≤ i → faulty i (entries_from f i (n - i)) ≡ none
   unfolding faulty
   none_left h = rw (ended f i n h)
 
-  module _ (r : Reading) (h : i < n) (is : r ≡ reading_of (entry_at f i)) where
-    pub fault_here : (k : ℕ) → r ≡ Reading.Fault k → faulty i (entries_from f i (n - i)) ≡ some (record { number = k; place = i })
+  module _ (r : Result Record Rule) (h : i < n) (is : r ≡ reading_of (entry_at f i)) where
+    pub fault_here : (k : Rule) → r ≡ Err k → faulty i (entries_from f i (n - i)) ≡ some (record { number = number_of k; place = i })
     unfolding faulty
-    fault_here k e = rw (rest f i n h, fault_is (entry_at f i) k (sym is ∙ e))
+    fault_here k e = rw (rest f i n h, fault_is (entry_at f i) (entry_fits f i) k (sym is ∙ e))
 
-    pub no_fault_here : ((k : ℕ) → r ≡ Reading.Fault k → ⊥) → faulty i (entries_from f i (n - i)) ≡ faulty (i + 1) (entries_from f (i + 1) (n - (i + 1)))
+    pub refused_here : (k : Rule) → r ≡ Err k → verdict_of (faulty i (entries_from f i (n - i))) ≡ Err (record { rule = k; place = i })
+    unfolding unless refusal_of
+    refused_here k e = rw (fault_here k e, rule_of_number k) refl
+
+    pub no_fault_here : ((k : Rule) → r ≡ Err k → ⊥) → faulty i (entries_from f i (n - i)) ≡ faulty (i + 1) (entries_from f (i + 1) (n - (i + 1)))
     no_fault_here d = rw (rest f i n h) (faulty_on i (entry_at f i) _ (not_fault r (entry_at f i) is d))
 
 -- ---- a sound file is short

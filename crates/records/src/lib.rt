@@ -5,7 +5,7 @@
 ghost use Rattle.std.specs.Prelude.{◌≡◌, ◌&&◌, ◌+◌, ◌*◌, ◌≤◌, length};
 ghost use Rattle.records.specs.Records.{four, units_at, names, is_member, is_units, link_of, point_of, span_of, link_at, point_at, begin_at, span_at, entry_at};
 ghost use Rattle.records.specs.Refusals.{unsound};
-ghost use Rattle.records.specs.inner.Cases.{reading_of, verdict_of};
+ghost use Rattle.records.specs.inner.Cases.{number_of, reading_of, verdict_of};
 
 use numbers::{Member, Price, Slope, Units};
 
@@ -20,21 +20,49 @@ pub enum Terms {
     Span(Units, Units, Slope, Price),
 }
 
-// A record as it is read: a link's ends and capacity, an offer's member and terms, the member whose span the next record
-// offers, or the refusal number of a fault. A span is read at the later of its two records; its lower end's range is the earlier one's to check.
+// A record that is no fault, as it is read: a link's ends and capacity, an offer's member and terms, or the member whose span
+// the next record offers. A span is read at the later of its two records; its lower end's range is the earlier one's to check.
 #[derive(Clone, Copy)]
-pub enum Reading {
+pub enum Record {
     Link(Member, Member, Units),
     Offer(Member, Terms),
     Begins(Member),
-    Fault(u8),
 }
 
-// What the checks so far say: nothing against the file, or a refusal's number and place.
-#[derive(Clone, Copy)]
-pub enum Verdict {
-    Sound,
-    Refused(u8, u16),
+// What a file or an answer area is refused for. The table with the numbers is docs/RULES.md, "Refusals"; 8 has no rule there,
+// and is never given.
+#[derive(Clone, Copy, PartialEq, Eq)]
+pub enum Rule {
+    TooLong = 1,
+    NotWhole = 2,
+    UnknownKind = 3,
+    OutOfRange = 4,
+    NoOffer = 5,
+    WithoutOffer = 6,
+    TooManyOffers = 7,
+    ClosesRing = 9,
+    Apart = 10,
+    NoRoom = 11,
+    Impossible = 12,
+    Unpaired = 13,
+    BadSpan = 14,
+}
+
+impl Rule {
+    // The rule's number in the table.
+    #[tactic(auto, unfolding(crate::specs::inner::Cases::number_of))]
+    pub fn number(self) -> u8
+        ensures { result ≡ number_of self }
+    {
+        self as u8
+    }
+}
+
+// A refusal: the rule that applies, and the place that the table gives for it.
+#[derive(Clone, Copy, PartialEq, Eq)]
+pub struct Refusal {
+    pub rule: Rule,
+    pub place: u16,
 }
 
 // 16 bits, low byte first.
@@ -52,65 +80,65 @@ pub fn four(a: u8, b: u8, c: u8, d: u8) -> u32
 }
 
 // A record of kind 1, from its other bytes.
-#[tactic(auto, unfolding(crate::specs::Records::link_of, crate::specs::inner::Cases::reading_of))]
-fn link_of(a: u8, b: u8, z: u8, c: u16, y: u8, x: u8) -> Reading
+#[tactic(auto, unfolding(crate::specs::Records::link_of, crate::specs::inner::Cases::reading_of, crate::specs::inner::Cases::rule_of))]
+fn link_of(a: u8, b: u8, z: u8, c: u16, y: u8, x: u8) -> Result<Record, Rule>
     ensures { result ≡ reading_of (link_of a b z c y x) }
 {
     if a < 1 {
-        return Reading::Fault(4);
+        return Err(Rule::OutOfRange);
     }
     if b <= a {
-        return Reading::Fault(4);
+        return Err(Rule::OutOfRange);
     }
     if 32 < b {
-        return Reading::Fault(4);
+        return Err(Rule::OutOfRange);
     }
     if z != 0 {
-        return Reading::Fault(4);
+        return Err(Rule::OutOfRange);
     }
     if 40 < c {
-        return Reading::Fault(4);
+        return Err(Rule::OutOfRange);
     }
     if y != 0 {
-        return Reading::Fault(4);
+        return Err(Rule::OutOfRange);
     }
     if x != 0 {
-        return Reading::Fault(4);
+        return Err(Rule::OutOfRange);
     }
-    Reading::Link(Member(a), Member(b), Units(c as i16))
+    Ok(Record::Link(Member(a), Member(b), Units(c as i16)))
 }
 
 // A record of kind 2, from its fields.
-#[tactic(auto, unfolding(crate::specs::Records::point_of, crate::specs::inner::Cases::terms_of, crate::specs::inner::Cases::reading_of))]
-fn point_of(j: u8, units: Units, price: Price) -> Reading
+#[tactic(auto, unfolding(crate::specs::Records::point_of, crate::specs::inner::Cases::terms_of, crate::specs::inner::Cases::reading_of, crate::specs::inner::Cases::rule_of))]
+fn point_of(j: u8, units: Units, price: Price) -> Result<Record, Rule>
     ensures { result ≡ reading_of (point_of j units.0 price.0) }
 {
     if !fields_fit(j, units) {
-        return Reading::Fault(4);
+        return Err(Rule::OutOfRange);
     }
     if !price.within(Price(-1000000), Price(1000000)) {
-        return Reading::Fault(4);
+        return Err(Rule::OutOfRange);
     }
-    Reading::Offer(Member(j), Terms::Point(units, price))
+    Ok(Record::Offer(Member(j), Terms::Point(units, price)))
 }
 
 // A span of a member, from its four numbers.
-#[tactic(auto, unfolding(crate::specs::Records::bad_span, crate::specs::Records::span_of, crate::specs::inner::Cases::terms_of, crate::specs::inner::Cases::reading_of))]
-fn span_of(j: u8, low: Units, high: Units, slope: Slope, base: Price) -> Reading
+#[tactic(auto, unfolding(crate::specs::Records::bad_span, crate::specs::Records::span_of, crate::specs::inner::Cases::terms_of, crate::specs::inner::Cases::reading_of, crate::specs::inner::Cases::rule_of))]
+fn span_of(j: u8, low: Units, high: Units, slope: Slope, base: Price) -> Result<Record, Rule>
     ensures { result ≡ reading_of (span_of j low.0 high.0 slope.0 base.0) }
 {
     if high.below(low) {
-        return Reading::Fault(14);
+        return Err(Rule::BadSpan);
     }
     let at_low = slope.amount(low, base);
     if !at_low.within(Price(-1000000), Price(1000000)) {
-        return Reading::Fault(14);
+        return Err(Rule::BadSpan);
     }
     let at_high = slope.amount(high, base);
     if !at_high.within(Price(-1000000), Price(1000000)) {
-        return Reading::Fault(14);
+        return Err(Rule::BadSpan);
     }
-    Reading::Offer(Member(j), Terms::Span(low, high, slope, base))
+    Ok(Record::Offer(Member(j), Terms::Span(low, high, slope, base)))
 }
 
 // A member's number and units in range, as every offer has them.
@@ -158,7 +186,7 @@ fn names(file: &[u8], i: usize, kind: u8, j: u8) -> bool
 
 // Record i, of kind 1.
 #[tactic(auto, unfolding(crate::specs::Records::link_at))]
-fn link_at(file: &[u8], i: usize) -> Reading
+fn link_at(file: &[u8], i: usize) -> Result<Record, Rule>
     requires { 8 * i + 8 ≤ length file.now }
     ensures { result ≡ reading_of (link_at file.now i) }
 {
@@ -176,7 +204,7 @@ fn link_at(file: &[u8], i: usize) -> Reading
 
 // Record i, of kind 2.
 #[tactic(auto, unfolding(crate::specs::Records::point_at))]
-fn point_at(file: &[u8], i: usize) -> Reading
+fn point_at(file: &[u8], i: usize) -> Result<Record, Rule>
     requires { 8 * i + 8 ≤ length file.now }
     ensures { result ≡ reading_of (point_at file.now i) }
 {
@@ -186,42 +214,42 @@ fn point_at(file: &[u8], i: usize) -> Reading
 }
 
 // Record i, of kind 6: a span whose other record must follow.
-#[tactic(auto, unfolding(crate::specs::Records::unfinished, crate::specs::Records::begin_at, crate::specs::inner::Cases::reading_of))]
-fn begin_at(file: &[u8], i: usize) -> Reading
+#[tactic(auto, unfolding(crate::specs::Records::unfinished, crate::specs::Records::begin_at, crate::specs::inner::Cases::reading_of, crate::specs::inner::Cases::rule_of))]
+fn begin_at(file: &[u8], i: usize) -> Result<Record, Rule>
     requires { 8 * i + 8 ≤ length file.now }
     ensures { result ≡ reading_of (begin_at file.now i) }
 {
     let j = file[8 * i + 1];
     if !fields_fit(j, units_at(file, i)) {
-        return Reading::Fault(4);
+        return Err(Rule::OutOfRange);
     }
     let next = i + 1;
     if file.len() / 8 <= next {
-        return Reading::Fault(13);
+        return Err(Rule::Unpaired);
     }
     if !names(file, next, 7, j) {
-        return Reading::Fault(13);
+        return Err(Rule::Unpaired);
     }
-    Reading::Begins(Member(j))
+    Ok(Record::Begins(Member(j)))
 }
 
 // Record i, of kind 7: the span that the record before it begins.
-#[tactic(auto, unfolding(crate::specs::Records::unbegun, crate::specs::Records::span_at, crate::specs::inner::Cases::reading_of))]
-fn span_at(file: &[u8], i: usize) -> Reading
+#[tactic(auto, unfolding(crate::specs::Records::unbegun, crate::specs::Records::span_at, crate::specs::inner::Cases::reading_of, crate::specs::inner::Cases::rule_of))]
+fn span_at(file: &[u8], i: usize) -> Result<Record, Rule>
     requires { 8 * i + 8 ≤ length file.now }
     ensures { result ≡ reading_of (span_at file.now i) }
 {
     let j = file[8 * i + 1];
     let high = units_at(file, i);
     if !fields_fit(j, high) {
-        return Reading::Fault(4);
+        return Err(Rule::OutOfRange);
     }
     if i == 0 {
-        return Reading::Fault(13);
+        return Err(Rule::Unpaired);
     }
     let first = i - 1;
     if !names(file, first, 6, j) {
-        return Reading::Fault(13);
+        return Err(Rule::Unpaired);
     }
     let low = units_at(file, first);
     let slope = Slope::from_bits(bits_at(file, i));
@@ -230,8 +258,8 @@ fn span_at(file: &[u8], i: usize) -> Reading
 }
 
 // Record i of the file, kind before fields.
-#[tactic(auto, unfolding(crate::specs::Records::entry_at, crate::specs::inner::Cases::reading_of))]
-pub fn read_at(file: &[u8], i: usize) -> Reading
+#[tactic(auto, unfolding(crate::specs::Records::entry_at, crate::specs::inner::Cases::reading_of, crate::specs::inner::Cases::rule_of))]
+pub fn read_at(file: &[u8], i: usize) -> Result<Record, Rule>
     requires { 8 * i + 8 ≤ length file.now }
     ensures { result ≡ reading_of (entry_at file.now i) }
 {
@@ -248,28 +276,33 @@ pub fn read_at(file: &[u8], i: usize) -> Reading
     if kind == 7 {
         return span_at(file, i);
     }
-    Reading::Fault(3)
+    Err(Rule::UnknownKind)
 }
 
 // Refusals 1 to 4, 13 and 14.
-pub fn check_records(file: &[u8]) -> Verdict
+pub fn check_records(file: &[u8]) -> Result<(), Refusal>
     ensures { result ≡ verdict_of (unsound file.now) }
 {
     let len = file.len();
     if FILE_LIMIT < len {
-        return Verdict::Refused(1, 0);
+        return Err(Refusal {
+            rule: Rule::TooLong,
+            place: 0,
+        });
     }
     if len % 8 != 0 {
-        return Verdict::Refused(2, 0);
+        return Err(Refusal {
+            rule: Rule::NotWhole,
+            place: 0,
+        });
     }
-    let n = len / 8;
-    let mut i = 0;
-    while i < n {
-        let r = read_at(file, i);
-        if let Reading::Fault(k) = r {
-            return Verdict::Refused(k, i as u16);
+    for i in 0..len / 8 {
+        if let Err(rule) = read_at(file, i) {
+            return Err(Refusal {
+                rule,
+                place: i as u16,
+            });
         }
-        i += 1;
     }
-    Verdict::Sound
+    Ok(())
 }
