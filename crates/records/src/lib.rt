@@ -7,7 +7,7 @@ ghost use Rattle.records.specs.Records.{four, units_at, names, is_member, is_uni
 ghost use Rattle.records.specs.Refusals.{unsound};
 ghost use Rattle.records.specs.inner.Cases.{number_of, reading_of, verdict_of};
 
-use numbers::{Member, Price, Slope, Units};
+use numbers::{Amount, Member, Price, Slope, Units, Whole};
 
 // The most bytes that a file has: 31 links and 32 times 64 offers of two records each.
 pub const FILE_LIMIT: usize = 33016;
@@ -127,15 +127,15 @@ fn point_of(j: u8, units: Units, price: Price) -> Result<Record, Rule>
 fn span_of(j: u8, low: Units, high: Units, slope: Slope, base: Price) -> Result<Record, Rule>
     ensures { result ≡ reading_of (span_of j low.0 high.0 slope.0 base.0) }
 {
-    if high.below(low) {
+    if high < low {
         return Err(Rule::BadSpan);
     }
     let at_low = slope.amount(low, base);
-    if !at_low.within(Price(-1000000), Price(1000000)) {
+    if !at_low.within(Amount(-1000000), Amount(1000000)) {
         return Err(Rule::BadSpan);
     }
     let at_high = slope.amount(high, base);
-    if !at_high.within(Price(-1000000), Price(1000000)) {
+    if !at_high.within(Amount(-1000000), Amount(1000000)) {
         return Err(Rule::BadSpan);
     }
     Ok(Record::Offer(Member(j), Terms::Span(low, high, slope, base)))
