@@ -9,8 +9,7 @@ use native.Mathlib.Numerals.{add-one}
 use native.Mathlib.Omega.{arith}
 use lib.Dec.{eqb}
 use lib.Bits.{bit_or}
-use lib.ListN.{length, get_or, set}
-use lib.Seq.{get_or-set_same, get_or-set_other}
+use lib.ListN.{length, get_or}
 use borrow.Author.Count.{below_more}
 use borrow.Author.Tests.{eqb-true, eq-eqb}
 use Rattle.numbers.proofs.Tests.{true_false, or_true, or_left, or_right}
@@ -290,28 +289,4 @@ unfolding gather
 searched_more ms a b m m' e f q S = record {
   gathers = q ∙ ap (λ (x : ℕ). cond (touches (get_or ms e 0) a b) (bit_or x (get_or ms e 0)) x) S.gathers ∙ ap (gather (λ i. get_or ms i 0) a b) (sym (add-one e));
   clear = below_more _ e S.clear f;
-}
-
--- ---- a pass over the sets: those below e are done, the others as they were
-pub record Merging (o₀ o : List ℕ) (e a b m : ℕ) : Type 0 where
-  pub done : (i : ℕ) → i < e → get_or o i 0 ≡ cond (touches (get_or o₀ i 0) a b) m (get_or o₀ i 0)
-  pub rest : (i : ℕ) → e ≤ i → get_or o i 0 ≡ get_or o₀ i 0
-
-pub merging_none : (o : List ℕ) (a b m : ℕ) → Merging o o 0 a b m
-merging_none o a b m = record { done = λ i l. absurd (not-suc-le-zero l); rest = λ i l. refl }
-
-pub merging_step : (o₀ o : List ℕ) (e a b m r : ℕ) → e < length o → r ≡ cond (touches (get_or o e 0) a b) m (get_or o e 0) → Merging o₀ o e a b m → Merging o₀ (set o e r) (e + 1) a b m
-merging_step o₀ o e a b m r l q M = record { done = λ i h. go i h (same? i e); rest = λ i h. get_or-set_other o e i r 0 (λ x. omega arith) ∙ M.rest i (omega arith) }
-  where
-    go : (i : ℕ) → i < e + 1 → ((i ≡ e) × (eqb i e ≡ true)) ⊎ ((i ≡ e → ⊥) × (eqb i e ≡ false)) → get_or (set o e r) i 0 ≡ cond (touches (get_or o₀ i 0) a b) m (get_or o₀ i 0)
-    go i h (inl x) =
-        ap (λ (j : ℕ). get_or (set o e r) j 0) x.0 ∙ get_or-set_same o e r 0 l ∙ q
-        ∙ ap (λ (y : ℕ). cond (touches y a b) m y) (M.rest e (le_refl e) ∙ ap (λ (j : ℕ). get_or o₀ j 0) (sym x.0))
-    go i h (inr x) = get_or-set_other o e i r 0 x.0 ∙ M.done i (omega (arith, x.0))
-
-pub merging_done : (o₀ o : List ℕ) (e k a b m : ℕ) → e ≡ k → k < length o → Merging o₀ o e a b m → Merged (λ e. get_or o₀ e 0) (λ e. get_or (set o k m) e 0) k a b m
-merging_done o₀ o e k a b m q l M = record {
-  old = λ i h. get_or-set_other o k i m 0 (λ x. omega arith) ∙ M.done i (omega arith);
-  new = get_or-set_same o k m 0 l;
-  past = λ i h. get_or-set_other o k i m 0 (λ x. omega arith) ∙ M.rest i (omega arith);
 }

@@ -1,98 +1,118 @@
--- The turns of the walk, in the code's terms. Assumes nothing.
-use mathlib.Core.Path.{◌≡◌, refl, sym, ap, ap₂, ◌∙◌, subst}
+-- The steps of the walk, in the code's terms. Assumes nothing.
+use mathlib.Core.Path.{◌≡◌, refl, sym, ap, ◌∙◌}
 use mathlib.Core.Logic.{◌⊎◌, inl, inr}
 use mathlib.Core.Bool.{true, false}
 use mathlib.Core.List.{List}
-use mathlib.Core.Option.{Option, none, some}
+use mathlib.Core.Option.{none, some}
+use mathlib.Core.Option as maybe
 use Prim.Native.Nat.{ℕ, zero, suc, ◌+◌, ◌-◌, ◌^◌, ◌≤◌, ◌<◌}
-use native.Mathlib.Numerals.{add-one}
 use native.Mathlib.Omega.{arith}
-use lib.ListN.{length, get_or, set}
+use lib.ListN.{length, get_or, set, length-set, replicate}
 use lib.Seq.{get_or-set_same, get_or-set_other}
 use lib.Bits.{bit_or}
 use lib.Count.{count_trailing_zeros}
 use lib.Dec.{eqb}
+use Rattle.std.specs.Prelude.{Option, Some, None}
 use Rattle.numbers.specs.declared.Member.{Member}
-use Rattle.numbers.specs.inner.Held.{member, member_in}
+use Rattle.numbers.specs.inner.Held.{member}
 use Rattle.problem.proofs.Count.{same?}
 use Rattle.problem.proofs.Steps.{Hop}
-use Rattle.network.specs.inner.Walks.{free_mask, on_mask, onward_of, WalkOf}
-use Rattle.network.specs.declared.walk.Onward.{Onward}
-use Rattle.network.proofs.Order.{hop, on_hit, on_miss, on_lt, Walking, walking_more, walking_done}
+use Rattle.network.specs.declared.bits.Members.{Members}
+use Rattle.network.specs.declared.walk.Step.{Step}
+use Rattle.network.specs.inner.Sets.{Numbered, index, set_in}
+use Rattle.network.specs.inner.Walks.{free_mask, blank, walked_at, Known, on_mask, step_of, WalkOf, Blank}
+use Rattle.network.proofs.Near.{blank_none, blank_set}
+use Rattle.network.proofs.Order.{hop, on_hit, on_miss, on_lt, Walking, walking_none, walking_more, walking_done, walking_full}
 
--- ---- the search for the next stop, at position k of those below count; f is the mask of what is free there
+-- ---- the search for the next step, at the position below k; free are the neighbours there that are not reached
 
-module _ (adj : List ℕ) (mem : List Member) (mask count k : ℕ) (so : on_mask adj mem mask count ≡ on_mask adj mem mask k) where
-  pub next_found : (f v : ℕ) (w : Member) → 0 < k → v ≡ member_in mem (k - 1) - 1 → f ≡ free_mask (get_or adj v 0) mask → (f ≡ 0 → ⊥) → w.0 ≡ count_trailing_zeros 32 f + 1
-      → Onward.To w (k - 1) ≡ onward_of (on_mask adj mem mask count)
-  unfolding onward_of
-  next_found f v w p i e d q =
-      let is : f ≡ free_mask (get_or adj (member_in mem (k - 1) - 1) 0) mask = e ∙ ap (λ (x : ℕ). free_mask (get_or adj x 0) mask) i in
-      ap {B = Onward} (λ (x : ℕ). Onward.To (member x) (k - 1)) (q ∙ add-one (count_trailing_zeros 32 f) ∙ ap (λ (x : ℕ). suc (count_trailing_zeros 32 x)) is)
-      ∙ sym (ap onward_of (so ∙ on_hit adj mem mask k p (λ z. d (is ∙ z))))
+module _ (adj : List Members) (steps : List Step) (mask count k : ℕ) (so : on_mask adj steps mask count ≡ on_mask adj steps mask k) (p : 0 < k)
+    (v free : ℕ) (i : v ≡ walked_at steps (k - 1) - 1) (f : free ≡ free_mask (set_in adj v) mask) where
+  here : on_mask adj steps mask count ≡ on_mask adj steps mask (suc (k - 1))
+  here = so ∙ ap (on_mask adj steps mask) (omega arith)
 
-  pub none_here : (f v : ℕ) → 0 < k → v ≡ member_in mem (k - 1) - 1 → f ≡ free_mask (get_or adj v 0) mask → f ≡ 0 → on_mask adj mem mask count ≡ on_mask adj mem mask (k - 1)
-  none_here f v p i e d = so ∙ on_miss adj mem mask k p (sym (ap (λ (x : ℕ). free_mask (get_or adj x 0) mask) i) ∙ sym e ∙ d)
+  is : free ≡ free_mask (set_in adj (walked_at steps (k - 1) - 1)) mask
+  is = f ∙ ap (λ (x : ℕ). free_mask (set_in adj x) mask) i
 
-on_zero : (adj : List ℕ) (mem : List Member) (mask k : ℕ) → k ≤ 0 → on_mask adj mem mask k ≡ none
-unfolding on_mask
-on_zero adj mem mask zero h = refl
-on_zero adj mem mask (suc k) h = absurd (omega arith)
+  pub next_found : (free ≡ 0 → ⊥) → (w : Member) → w.0 ≡ count_trailing_zeros 32 free + 1 → Some (record { member = w; from = k - 1 }) ≡ step_of (on_mask adj steps mask count)
+  unfolding step_of
+  next_found d w q =
+      ap {B = Option Step} (λ (x : ℕ). Some (record { member = member x; from = k - 1 })) (omega (arith, q, ap (count_trailing_zeros 32) is))
+      ∙ sym (ap step_of (here ∙ on_hit adj steps mask (k - 1) (λ z. d (is ∙ z))))
 
-pub none_found : (adj : List ℕ) (mem : List Member) (mask count k : ℕ) → on_mask adj mem mask count ≡ on_mask adj mem mask k → k ≤ 0
-    → Onward.Done ≡ onward_of (on_mask adj mem mask count)
-unfolding onward_of
-none_found adj mem mask count k so h = sym (ap onward_of (so ∙ on_zero adj mem mask k h))
+  pub none_here : free ≡ 0 → on_mask adj steps mask count ≡ on_mask adj steps mask (k - 1)
+  none_here d = here ∙ on_miss adj steps mask (k - 1) (sym is ∙ d)
+
+pub none_found : (adj : List Members) (steps : List Step) (mask count k : ℕ) → on_mask adj steps mask count ≡ on_mask adj steps mask k → k ≤ 0
+    → None ≡ step_of (on_mask adj steps mask count)
+unfolding step_of on_mask
+none_found adj steps mask count k so h = let none_left : k ≡ 0 = omega arith in sym (ap step_of (so ∙ ap (on_mask adj steps mask) none_left))
 
 -- ---- what an answer says
 
-to_stop : (o : Option Hop) (w : Member) (f : ℕ) → onward_of o ≡ Onward.To w f → o ≡ some (hop w.0 f)
-unfolding onward_of
-to_stop none w f e = let z : ◌≡◌ {A = ℕ} 0 1 = cc in absurd (omega arith)
-to_stop (some s) w f e =
-    let p : member s.at ≡ w = cc in
-    let q : s.from ≡ f = cc in
-    ap₂ {C = Option Hop} (λ (u : Member) (z : ℕ). some (record { at = u.0; from = z })) p q
+to_step : (o : maybe.Option Hop) (w : Step) → Some w ≡ step_of o → o ≡ some (hop w)
+unfolding step_of
+to_step none w e = absurd (cc (e))
+to_step (some s) w e = let q : w ≡ record { member = member s.at; from = s.from } = cc in ap {B = maybe.Option Hop} (λ (u : Step). some (hop u)) (sym q)
 
-done_none : (o : Option Hop) → onward_of o ≡ Onward.Done → o ≡ none
-unfolding onward_of
-done_none none e = refl
-done_none (some s) e = let z : ◌≡◌ {A = ℕ} 0 1 = cc in absurd (omega arith)
+to_none : (o : maybe.Option Hop) → None ≡ step_of o → o ≡ none
+unfolding step_of
+to_none none e = refl
+to_none (some s) e = absurd (cc (e))
 
--- ---- the loop of the walk, at the answer r
+-- ---- the loop of the walk: the array holds the walk so far, of members that a set can have, and nothing after it
+pub record Walks (adj : List Members) (steps : List Step) (count mask : ℕ) : Type 0 where
+  pub long : length steps ≡ 32
+  pub some_member : 0 < count
+  pub few : count ≤ 32
+  pub known : Known steps count
+  pub walking : Walking adj steps count mask
+  pub rest : Blank blank count steps
 
-module _ (adj : List ℕ) (mem : List Member) (from : List ℕ) (count mask : ℕ) (r : Onward) (is : r ≡ onward_of (on_mask adj mem mask count)) where
-  module _ (w : Member) (f : ℕ) (e : r ≡ Onward.To w f) where
-    to : on_mask adj mem mask count ≡ some (hop w.0 f)
-    to = to_stop (on_mask adj mem mask count) w f (sym is ∙ e)
-
-    pub stop_in : (1 ≤ w.0) × (w.0 ≤ 32)
-    stop_in = let b = on_lt adj mem mask count (hop w.0 f) to in (b.0, b.1)
-
-    pub stop_more : (v one next : ℕ) → count < length mem → count < length from → v ≡ w.0 - 1 → one ≡ 2 ^ v → next ≡ bit_or mask one
-        → Walking adj mem from count mask → Walking adj (set mem count w) (set from count f) (count + 1) next
-    stop_more v one next lm lf i p q W =
-        subst (Walking adj (set mem count w) (set from count f) (count + 1)) (sym (q ∙ ap (bit_or mask) (p ∙ ap (λ (x : ℕ). 2 ^ x) i)))
-        (walking_more adj mem from count mask w f lm lf to W)
-
-  pub stop_none : 0 < count → r ≡ Onward.Done → Walking adj mem from count mask → WalkOf adj mem from count mask
-  stop_none p e W = walking_done adj mem from count mask p (done_none (on_mask adj mem mask count) (sym is ∙ e)) W
-
--- the members reached are numbered from 1 to 32
-abbrev pub Known : List Member → ℕ → Type 0
-Known mem count = (i : ℕ) → i < count → (1 ≤ member_in mem i) × (member_in mem i ≤ 32)
-
-pub known_start : (mem : List Member) → member_in mem 0 ≡ 1 → Known mem 1
-known_start mem e i l = let q : member_in mem i ≡ 1 = ap (member_in mem) (omega arith) ∙ e in (omega arith, omega arith)
-
-pub known_more : (mem : List Member) (count : ℕ) (w : Member) → count < length mem → (1 ≤ w.0) × (w.0 ≤ 32) → Known mem count → Known (set mem count w) (count + 1)
-known_more mem count w l b h i li = go (same? i count)
+pub walks_none : (adj : List Members) (mask : ℕ) → mask ≡ 1 → Walks adj (set (replicate 32 blank) 0 (record { member = member 1; from = 0 })) 1 mask
+walks_none adj mask e =
+    let first : Step = record { member = member 1; from = 0 } in
+    record {
+      long = refl;
+      some_member = omega arith;
+      few = omega arith;
+      known = λ i l. known_one i l;
+      walking = rw e (walking_none adj (set (replicate 32 blank) 0 first) refl refl);
+      rest = blank_set blank (replicate 32 blank) 0 first (blank_none blank 32 0);
+    }
   where
-    go : ((i ≡ count) × (eqb i count ≡ true)) ⊎ ((i ≡ count → ⊥) × (eqb i count ≡ false)) → (1 ≤ member_in (set mem count w) i) × (member_in (set mem count w) i ≤ 32)
-    go (inl e) =
-        let q : member_in (set mem count w) i ≡ w.0 = ap (member_in (set mem count w)) e.0 ∙ ap (λ (u : Member). u.0) (get_or-set_same mem count w (member 0) l) in
-        (omega (arith, b.0), omega (arith, b.1))
-    go (inr e) =
-        let q : member_in (set mem count w) i ≡ member_in mem i = ap (λ (u : Member). u.0) (get_or-set_other mem count i w (member 0) e.0) in
-        let k = h i (omega (arith, e.0)) in
-        (omega (arith, k.0), omega (arith, k.1))
+    known_one : Known (set (replicate 32 blank) 0 (record { member = member 1; from = 0 })) 1
+    known_one zero l = (omega arith, omega arith)
+    known_one (suc i) l = absurd (omega arith)
+
+module _ (adj : List Members) (steps : List Step) (count mask : ℕ) (W : Walks adj steps count mask) where
+  module _ (w : Step) (e : Some w ≡ step_of (on_mask adj steps mask count)) where
+    to : on_mask adj steps mask count ≡ some (hop w)
+    to = to_step (on_mask adj steps mask count) w e
+
+    pub next_numbered : Numbered w.member
+    next_numbered = let b = on_lt adj steps mask count (hop w) to in (b.0, b.1)
+
+    pub walks_more : (next : ℕ) → count < 32 → next ≡ bit_or mask (2 ^ index w.member) → Walks adj (set steps count w) (count + 1) next
+    walks_more next l q = record {
+      long = length-set steps count w ∙ W.long;
+      some_member = omega arith;
+      few = omega arith;
+      known = λ i h. known_more i h (same? i count);
+      walking = rw q (walking_more adj steps count mask w (omega (arith, l, W.long)) to W.walking);
+      rest = blank_set blank steps count w W.rest;
+    }
+      where
+        known_more : (i : ℕ) → i < count + 1 → ((i ≡ count) × (eqb i count ≡ true)) ⊎ ((i ≡ count → ⊥) × (eqb i count ≡ false)) → Numbered (get_or (set steps count w) i blank).member
+        known_more i h (inl k) =
+            let q : get_or (set steps count w) i blank ≡ w = ap (λ (j : ℕ). get_or (set steps count w) j blank) k.0 ∙ get_or-set_same steps count w blank (omega (arith, l, W.long)) in
+            rw q next_numbered
+        known_more i h (inr k) =
+            let q : get_or (set steps count w) i blank ≡ get_or steps i blank = get_or-set_other steps count i w blank k.0 in
+            rw q (W.known i (omega (arith, k.0)))
+
+  pub walks_end : None ≡ step_of (on_mask adj steps mask count) → WalkOf adj steps count mask × Blank blank count steps
+  walks_end e = (walking_done adj steps count mask W.some_member (to_none (on_mask adj steps mask count) e) W.walking, W.rest)
+
+  pub walks_full : 32 ≤ count → WalkOf adj steps count mask × Blank blank count steps
+  walks_full h = (walking_full adj steps count mask h W.walking, W.rest)

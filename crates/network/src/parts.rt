@@ -1,53 +1,49 @@
 // The parts that links join: for each link the set of the members of its part. A link closes a ring if one of the sets holds
 // both its ends; else the sets that hold one of them become one.
-ghost use Rattle.std.specs.Prelude.{◌≡◌, cond, ◌&&◌, ◌<◌, get_or};
+ghost use Rattle.std.specs.Prelude.{◌≡◌, ◌&&◌, ◌<◌, cond};
 ghost use Rattle.std.specs.Int.Bits.{bit_or};
-ghost use Rattle.network.specs.inner.Sets.{holds};
+ghost use Rattle.network.specs.inner.Sets.{Numbered, index, holds, set_in};
 ghost use Rattle.network.specs.inner.Parts.{touches, Merged};
 
-use crate::bits::{has, join};
+use crate::bits::Members;
+use numbers::Member;
 
-pub fn holds_both(old: u32, a: usize, b: usize) -> bool
-    requires { (a < 32) × (b < 32) }
-    ensures { result ≡ (holds old a && holds old b) }
-{
-    if has(old, a) { has(old, b) } else { false }
+// The two members that a link joins.
+#[derive(Clone, Copy)]
+pub struct Ends {
+    pub a: Member,
+    pub b: Member,
+    pub ghost numbered: { Numbered a × Numbered b },
 }
 
-fn touched(old: u32, a: usize, b: usize) -> bool
-    requires { (a < 32) × (b < 32) }
-    ensures { result ≡ touches old a b }
+pub fn holds_both(part: Members, link: Ends) -> bool
+    ensures { result ≡ (holds part.0 (index link.a) && holds part.0 (index link.b)) }
 {
-    if has(old, a) { true } else { has(old, b) }
+    part.has(link.a) && part.has(link.b)
 }
 
-// The set m with the members of old, where old holds a or b.
-pub fn gathered(m: u32, old: u32, a: usize, b: usize) -> u32
-    requires { (a < 32) × (b < 32) }
-    ensures { result ≡ cond (touches old a b) (bit_or m old) m }
+fn touched(part: Members, link: Ends) -> bool
+    ensures { result ≡ touches part.0 (index link.a) (index link.b) }
 {
-    if touched(old, a, b) { join(m, old) } else { m }
+    part.has(link.a) || part.has(link.b)
 }
 
-// m in the place of old, where old holds a or b.
-fn replaced(m: u32, old: u32, a: usize, b: usize) -> u32
-    requires { (a < 32) × (b < 32) }
-    ensures { result ≡ cond (touches old a b) m old }
+// The set m with the members of the part, where it holds an end of the link.
+pub fn gathered(m: Members, part: Members, link: Ends) -> Members
+    ensures { result.0 ≡ cond (touches part.0 (index link.a) (index link.b)) (bit_or m.0 part.0) m.0 }
 {
-    if touched(old, a, b) { m } else { old }
+    if touched(part, link) { m.join(part) } else { m }
 }
 
-// The parts with those of a and b made one, m, which is also the new link's.
-pub fn merged(parts: [u32; 31], count: usize, a: usize, b: usize, m: u32) -> [u32; 31]
-    requires { (a < 32) × (b < 32) × (count < 31) }
-    ensures { Merged (λ e. get_or parts e 0) (λ e. get_or result e 0) count a b m }
+// Of the parts of count links those that hold an end of the link are made one, m, which is also the link's.
+pub fn merged(parts: &mut [Members; 31], count: usize, link: Ends, m: Members)
+    requires { count < 31 }
+    ensures { Merged (set_in parts.old) (set_in parts.new) count (index link.a) (index link.b) m.0 }
 {
-    let mut out = parts;
-    let mut e: usize = 0;
-    while e < count {
-        out[e] = replaced(m, out[e], a, b);
-        e += 1;
+    for part in parts[..count].iter_mut() {
+        if touched(*part, link) {
+            *part = m;
+        }
     }
-    out[count] = m;
-    out
+    parts[count] = m;
 }

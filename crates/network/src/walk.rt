@@ -1,88 +1,75 @@
 // The walk from member 1: from the latest member reached that has a neighbour not yet reached, to the lowest such neighbour.
-ghost use Rattle.std.specs.Prelude.{◌≡◌, ℕ, ◌<◌, ◌≤◌};
-ghost use Rattle.numbers.specs.inner.Held.{member, member_in};
-ghost use Rattle.network.specs.inner.Walks.{add_masks, free_mask, on_mask, onward_of, WalkOf, Blank};
+ghost use Rattle.std.specs.Prelude.{◌≡◌, ◌≤◌};
+ghost use Rattle.network.specs.inner.Sets.{index};
+ghost use Rattle.network.specs.inner.Walks.{add_masks, blank, on_mask, step_of, Known, WalkOf, Blank};
 
-use crate::bits::{join, only};
+use crate::bits::Members;
+use crate::parts::Ends;
 use numbers::Member;
 
-// The masks of the neighbours with a and b, by their indices, as neighbours.
-pub fn linked(adj: [u32; 32], a: usize, b: usize) -> [u32; 32]
-    requires { (a < 32) × (b < 32) }
-    ensures { result ≡ add_masks adj a b }
+// The neighbours of each member, with the ends of the link as neighbours.
+pub fn linked(adj: &mut [Members; 32], link: Ends)
+    ensures { adj.new ≡ add_masks adj.old (index link.a) (index link.b) }
 {
-    let mut out = adj;
-    out[a] = join(out[a], only(b));
-    out[b] = join(out[b], only(a));
-    out
+    let a = link.a.index();
+    let b = link.b.index();
+    adj[a] = adj[a].with(link.b);
+    adj[b] = adj[b].with(link.a);
 }
 
-// The next step of a walk: to a member and from a position.
+// A step of a walk: the member reached, and the position that it was reached from.
 #[derive(Clone, Copy)]
-enum Onward {
-    To(Member, u8),
-    Done,
+pub struct Step {
+    pub member: Member,
+    pub from: u8,
 }
 
-fn free_of(nb: u32, reached: u32) -> u32
-    ensures { result ≡ free_mask nb reached }
-{
-    nb & !reached
+// A walk by its positions, and the members that it reached. What stands past the count is 0.
+#[derive(Clone, Copy)]
+pub struct Walked {
+    pub step: [Step; 32],
+    pub count: usize,
+    pub reached: Members,
 }
 
 // The next step: from the latest position that has a neighbour not yet reached, to the lowest such neighbour.
-fn go_on(adj: [u32; 32], at: [Member; 32], count: usize, reached: u32) -> Onward
-    requires { (count ≤ 32) × ((i : ℕ) → i < count → (1 ≤ member_in at i) × (member_in at i ≤ 32)) }
-    ensures { result ≡ onward_of (on_mask adj at reached count) }
+fn go_on(adj: &[Members; 32], walked: &Walked) -> Option<Step>
+    requires { (walked.now.count ≤ 32) × Known walked.now.step walked.now.count }
+    ensures { result ≡ step_of (on_mask adj.now walked.now.step walked.now.reached.0 walked.now.count) }
 {
-    let mut k = count;
-    while 0 < k {
-        k -= 1;
-        let free = free_of(adj[at[k].index()], reached);
-        if free != 0 {
-            return Onward::To(Member::at(u32::trailing_zeros(free) as usize), k as u8);
+    for k in (0..walked.count).rev() {
+        let free = adj[walked.step[k].member.index()].without(walked.reached);
+        if let Some(member) = free.lowest() {
+            return Some(Step {
+                member,
+                from: k as u8,
+            });
         }
     }
-    Onward::Done
+    None
 }
 
-// A walk by its positions, and the members that it reached, as bits.
-#[derive(Clone, Copy)]
-pub struct Walked {
-    pub member: [Member; 32],
-    pub parent: [u8; 32],
-    pub count: usize,
-    pub reached: u32,
-}
-
-// The walk from member 1 over the neighbours that the masks give.
-pub fn walk(adj: [u32; 32]) -> Walked
-    ensures { WalkOf adj result.member result.parent result.count result.reached × Blank (member 0) result.count result.member × Blank 0 result.count result.parent }
+// The walk from member 1 over the neighbours of each member.
+pub fn walk(adj: &[Members; 32]) -> Walked
+    ensures { WalkOf adj.now result.step result.count result.reached.0 × Blank blank result.count result.step }
 {
-    let mut member = [Member(0); 32];
-    member[0] = Member(1);
-    let mut parent = [0u8; 32];
-    let mut count: usize = 1;
-    let mut reached: u32 = 1;
-    while count < 32 {
-        let next = go_on(adj, member, count, reached);
-        let Onward::To(w, k) = next else {
-            return Walked {
-                member,
-                parent,
-                count,
-                reached,
-            };
+    let blank = Step {
+        member: Member(0),
+        from: 0,
+    };
+    let mut walked = Walked {
+        step: [blank; 32],
+        count: 1,
+        reached: Members::only(Member(1)),
+    };
+    walked.step[0].member = Member(1);
+    while walked.count < 32 {
+        let Some(next) = go_on(adj, &walked) else {
+            break;
         };
-        member[count] = w;
-        parent[count] = k;
-        reached = join(reached, only(w.index()));
-        count += 1;
+        walked.step[walked.count] = next;
+        walked.reached = walked.reached.with(next.member);
+        walked.count += 1;
     }
-    Walked {
-        member,
-        parent,
-        count,
-        reached,
-    }
+    walked
 }

@@ -1,13 +1,9 @@
--- `merged` meets its contract. The loop's invariant: the sets below e are done, and the others are as they were. The measure
--- is the number of sets left. Assumes nothing.
-use mathlib.Core.Path.{◌≡◌}
-use Prim.Native.Nat.{◌≤◌, ◌-◌}
-use lib.ListN.{length}
-use Rattle.network.proofs.Merges.{Merging}
+use Rattle.std.proofs.Common.{◌≡◌, ℕ, ◌<◌, ◌≤◌, cond}
+use Rattle.network.specs.inner.Sets.{index, set_in}
+use Rattle.network.specs.inner.Parts.{touches}
 use Rattle.network.proofs.parts.merged.Given as goal
 
-abbrev pub invariant-loop-e : goal.invariant-loop-e
-invariant-loop-e l = (l.e ≤ l.count) × (length l.out ≡ 31) × Merging l.initial.out l.out l.e l.a l.b l.m
-
-abbrev pub decreases-loop-e : goal.decreases-loop-e
-decreases-loop-e l = l.count - l.e
+abbrev pub invariant-loop-part : goal.invariant-loop-part
+invariant-loop-part l =
+    ((e : ℕ) → e < l.part-index → set_in l.part-items e ≡ cond (touches (set_in l.initial.part-items e) (index l.link.a) (index l.link.b)) l.m.0 (set_in l.initial.part-items e))
+    × ((e : ℕ) → l.part-index ≤ e → set_in l.part-items e ≡ set_in l.initial.part-items e)

@@ -1,15 +1,12 @@
--- `go_on` meets its contract: position by position, from the latest. Assumes nothing.
 use Rattle.network.proofs.Stops.{next_found, none_here, none_found}
-use native.Mathlib.Omega.{arith}
 use Rattle.network.proofs.walk.go_on.Goals as goal
 
-pub returns-then-free-ne0 : goal.returns-then-free-ne0
-returns-then-free-ne0 c =
-    next_found _ _ _ _ _ c.loop-k.invariant.1 _ _ _ c.loop-k-test.true c.index.ensures c.free_of-free.ensures c.if-free-ne0.true c.at.ensures
+pub returns-in-Some : goal.returns-in-Some
+returns-in-Some c =
+    next_found _ _ _ _ _ c.loop-k.invariant c.loop-k-test.true _ _ c.index.ensures c.without-free.ensures c.in-Some.ensures.0 _ c.in-Some.ensures.1
 
 pub loop-k-preserved : goal.loop-k-preserved
-loop-k-preserved c =
-    (omega arith, none_here _ _ _ _ _ c.loop-k.invariant.1 _ _ c.loop-k-test.true c.index.ensures c.free_of-free.ensures (omega arith))
+loop-k-preserved c = none_here _ _ _ _ _ c.loop-k.invariant c.loop-k-test.true _ _ c.index.ensures c.without-free.ensures c.in_default.ensures
 
 pub returns : goal.returns
-returns c = none_found _ _ _ _ _ c.loop-k.invariant.1 c.loop-k-test.false
+returns c = none_found _ _ _ _ _ c.loop-k.invariant c.loop-k-test.false
