@@ -1,5 +1,5 @@
 // The walk from member 1: from the latest member reached that has a neighbour not yet reached, to the lowest such neighbour.
-ghost use Rattle.std.specs.Prelude.{◌≡◌, ◌≤◌};
+ghost use Rattle.std.specs.Prelude.{◌≡◌, ◌≤◌, length};
 ghost use Rattle.network.specs.inner.Sets.{index};
 ghost use Rattle.network.specs.inner.Walks.{add_masks, blank, on_mask, step_of, Known, WalkOf, Blank};
 
@@ -33,12 +33,12 @@ pub struct Walked {
 }
 
 // The next step: from the latest position that has a neighbour not yet reached, to the lowest such neighbour.
-fn go_on(adj: &[Members; 32], walked: &Walked) -> Option<Step>
-    requires { (walked.now.count ≤ 32) × Known walked.now.step walked.now.count }
-    ensures { result ≡ step_of (on_mask adj.now walked.now.step walked.now.reached.0 walked.now.count) }
+fn go_on(adj: &[Members; 32], steps: &[Step], reached: Members) -> Option<Step>
+    requires { (length steps.now ≤ 32) × Known steps.now (length steps.now) }
+    ensures { result ≡ step_of (on_mask adj.now steps.now reached.0 (length steps.now)) }
 {
-    for k in (0..walked.count).rev() {
-        let free = adj[walked.step[k].member.index()].without(walked.reached);
+    for k in (0..steps.len()).rev() {
+        let free = adj[steps[k].member.index()].without(reached);
         if let Some(member) = free.lowest() {
             return Some(Step {
                 member,
@@ -50,26 +50,30 @@ fn go_on(adj: &[Members; 32], walked: &Walked) -> Option<Step>
 }
 
 // The walk from member 1 over the neighbours of each member.
+#[tactic(auto, using(crate::proofs::Stops::next_numbered, crate::proofs::Stops::walks_more, crate::proofs::Stops::walks_end))]
 pub fn walk(adj: &[Members; 32]) -> Walked
     ensures { WalkOf adj.now result.step result.count result.reached.0 × Blank blank result.count result.step }
 {
-    let blank = Step {
+    let mut step = [Step {
         member: Member(0),
         from: 0,
-    };
-    let mut walked = Walked {
-        step: [blank; 32],
-        count: 1,
-        reached: Members::only(Member(1)),
-    };
-    walked.step[0].member = Member(1);
-    while walked.count < 32 {
-        let Some(next) = go_on(adj, &walked) else {
-            break;
+    }; 32];
+    step[0].member = Member(1);
+    let mut reached = Members::only(Member(1));
+    for count in 1..32 {
+        let Some(next) = go_on(adj, &step[..count], reached) else {
+            return Walked {
+                step,
+                count,
+                reached,
+            };
         };
-        walked.step[walked.count] = next;
-        walked.reached = walked.reached.with(next.member);
-        walked.count += 1;
+        step[count] = next;
+        reached = reached.with(next.member);
     }
-    walked
+    Walked {
+        step,
+        count: 32,
+        reached,
+    }
 }
