@@ -6,7 +6,7 @@ use lib.IntN.{ℤ, pos, ◌+ℤ◌, ◌-ℤ◌}
 use mir.Syntax.{w16}
 use mir.Val.{SFits}
 use Rattle.numbers.proofs.Signs.{up, dn, added, taken}
-use Rattle.numbers.proofs.Complement.{sfits_from}
+use Rattle.numbers.proofs.Fits.{sfits_from}
 
 module _ {a b : ℕ} (y z : ℤ) (e : y ≡ pos a) (g : z ≡ pos b) where
   halves : (up y ≡ a) × (dn y ≡ 0) × (up z ≡ b) × (dn z ≡ 0)

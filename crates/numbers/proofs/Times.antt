@@ -9,7 +9,7 @@ use lib.Signed.{◌≤ℤ◌, nat_abs-le}
 use mir.Syntax.{Width, w16, w32, w64}
 use mir.Val.{SFits, hbits}
 use Rattle.numbers.proofs.Signs.{up, dn, added, taken, equal, up_neg, dn_neg, le_to, le_from}
-use Rattle.numbers.proofs.Complement.{sfits_from, sfits_to}
+use Rattle.numbers.proofs.Fits.{sfits_from, sfits_to}
 
 -- ---- a positive factor
 
