@@ -24,7 +24,7 @@ use Rattle.problem.proofs.Spans.{point_limited, span_limited}
 use Rattle.records.specs.declared.Terms.{Terms}
 use Rattle.records.specs.declared.Record.{Record}
 use Rattle.records.specs.declared.Rule.{Rule}
-use Rattle.records.specs.Records.{Entry, byte, two, units_at, number_at, is_member, is_units, is_price, fields_fit, link_of, point_of, unfinished, unbegun, bad_span, span_of, link_at, point_at, begin_at, span_at, entry_at, entries_from, entries}
+use Rattle.records.specs.Records.{Entry, byte, two, units_at, number_at, is_member, is_units, is_price, names, fields_fit, link_of, point_of, unfinished, unbegun, bad_span, span_of, link_at, point_at, begin_at, span_at, entry_at, entries_from, entries}
 use Rattle.records.specs.Records.Entry.{link, offer, begins, fault}
 use Rattle.records.specs.Refusals.{Refusal, refusal, ◌otherwise◌, place_if, file_limit, too_long, faulty, unsound}
 use Rattle.records.proofs.Rules.{rule_of_number}
@@ -122,6 +122,12 @@ kind_6 f i e o h = begin_other f i o (sym is ∙ h)
   where
     is : entry_at f i ≡ begin_at f i
     is = rw e refl
+
+-- a kind 7 is not after its kind 6 by the record before it
+pub unbegun_later : (f : List ℕ) (i : ℕ) → (i ≡ 0 → ⊥) → unbegun f i ≡ not (names f (i - 1) 6 (byte f i 1))
+unfolding unbegun
+unbegun_later f zero h = absurd (h refl)
+unbegun_later f (suc i) h = let at : i ≡ suc i - 1 = omega arith in rw (← at) refl
 
 -- ---- the numbers of a link and of an offer are in range, and a fault is one of four refusals
 pub record LinkFits (l : Link) : Type 0 where

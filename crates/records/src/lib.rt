@@ -3,14 +3,27 @@
 #![tactic(auto)]
 
 ghost use Rattle.std.specs.Prelude.{◌≡◌, ◌&&◌, ◌+◌, ◌*◌, ◌≤◌, length};
-ghost use Rattle.records.specs.Records.{four, units_at, names, is_member, is_units, link_of, point_of, span_of, link_at, point_at, begin_at, span_at, entry_at};
+ghost use Rattle.records.specs.Records.{byte, four, units_at, number_at, names, is_price, link_at, point_at, span_of, entry_at};
 ghost use Rattle.records.specs.Refusals.{unsound};
-ghost use Rattle.records.specs.inner.Cases.{number_of, reading_of, verdict_of};
+ghost use Rattle.records.specs.inner.Cases.{number_of, kind_number, KindOf, bytes_at, fields_of, reading_of, verdict_of};
 
 use numbers::{Amount, Member, Price, Slope, Units, Whole};
 
 // The most bytes that a file has: 31 links and 32 times 64 offers of two records each.
 pub const FILE_LIMIT: usize = 33016;
+
+// The other limits, from docs/RULES.md, "Sizes".
+const MEMBERS: u8 = 32;
+
+const CAPACITY: u16 = 40;
+
+const LEAST_UNITS: Units = Units(-2000);
+
+const MOST_UNITS: Units = Units(2000);
+
+const LOWEST_PRICE: Amount = Amount(-1000000);
+
+const HIGHEST_PRICE: Amount = Amount(1000000);
 
 // What an offer offers: a price for some units, or for every number of units from a lower to an upper end the slope times it
 // plus a base.
@@ -65,218 +78,182 @@ pub struct Refusal {
     pub place: u16,
 }
 
+// The kinds of records, in a file and in an answer, by their numbers in docs/RULES.md.
+#[derive(Clone, Copy, PartialEq, Eq)]
+pub enum Kind {
+    Link = 1,
+    Point = 2,
+    Member = 3,
+    Flow = 4,
+    Total = 5,
+    Begin = 6,
+    End = 7,
+}
+
+impl TryFrom<u8> for Kind {
+    type Error = Rule;
+
+    ghost try_from_gives = { KindOf };
+
+    #[tactic(auto, unfolding(crate::specs::inner::Cases::kind_number))]
+    fn try_from(byte: u8) -> Result<Kind, Rule> {
+        match byte {
+            1 => Ok(Kind::Link),
+            2 => Ok(Kind::Point),
+            3 => Ok(Kind::Member),
+            4 => Ok(Kind::Flow),
+            5 => Ok(Kind::Total),
+            6 => Ok(Kind::Begin),
+            7 => Ok(Kind::End),
+            _ => Err(Rule::UnknownKind),
+        }
+    }
+}
+
 // 16 bits, low byte first.
 pub fn two(low: u8, high: u8) -> u16
     ensures { result ≡ low + 256 * high }
 {
-    low as u16 + 256 * (high as u16)
+    u16::from_le_bytes([low, high])
 }
 
 // 32 bits, low byte first.
 pub fn four(a: u8, b: u8, c: u8, d: u8) -> u32
     ensures { result ≡ a + 256 * b + 65536 * c + 16777216 * d }
 {
-    a as u32 + 256 * (b as u32) + 65536 * (c as u32) + 16777216 * (d as u32)
+    u32::from_le_bytes([a, b, c, d])
 }
 
-// A record of kind 1, from its other bytes.
-#[tactic(auto, unfolding(crate::specs::Records::link_of, crate::specs::inner::Cases::reading_of, crate::specs::inner::Cases::rule_of))]
-fn link_of(a: u8, b: u8, z: u8, c: u16, y: u8, x: u8) -> Result<Record, Rule>
-    ensures { result ≡ reading_of (link_of a b z c y x) }
-{
-    if a < 1 {
-        return Err(Rule::OutOfRange);
-    }
-    if b <= a {
-        return Err(Rule::OutOfRange);
-    }
-    if 32 < b {
-        return Err(Rule::OutOfRange);
-    }
-    if z != 0 {
-        return Err(Rule::OutOfRange);
-    }
-    if 40 < c {
-        return Err(Rule::OutOfRange);
-    }
-    if y != 0 {
-        return Err(Rule::OutOfRange);
-    }
-    if x != 0 {
-        return Err(Rule::OutOfRange);
-    }
-    Ok(Record::Link(Member(a), Member(b), Units(c as i16)))
-}
-
-// A record of kind 2, from its fields.
-#[tactic(auto, unfolding(crate::specs::Records::point_of, crate::specs::inner::Cases::terms_of, crate::specs::inner::Cases::reading_of, crate::specs::inner::Cases::rule_of))]
-fn point_of(j: u8, units: Units, price: Price) -> Result<Record, Rule>
-    ensures { result ≡ reading_of (point_of j units.0 price.0) }
-{
-    if !fields_fit(j, units) {
-        return Err(Rule::OutOfRange);
-    }
-    if !price.within(Price(-1000000), Price(1000000)) {
-        return Err(Rule::OutOfRange);
-    }
-    Ok(Record::Offer(Member(j), Terms::Point(units, price)))
-}
-
-// A span of a member, from its four numbers.
-#[tactic(auto, unfolding(crate::specs::Records::bad_span, crate::specs::Records::span_of, crate::specs::inner::Cases::terms_of, crate::specs::inner::Cases::reading_of, crate::specs::inner::Cases::rule_of))]
-fn span_of(j: u8, low: Units, high: Units, slope: Slope, base: Price) -> Result<Record, Rule>
-    ensures { result ≡ reading_of (span_of j low.0 high.0 slope.0 base.0) }
-{
-    if high < low {
-        return Err(Rule::BadSpan);
-    }
-    let at_low = slope.amount(low, base);
-    if !at_low.within(Amount(-1000000), Amount(1000000)) {
-        return Err(Rule::BadSpan);
-    }
-    let at_high = slope.amount(high, base);
-    if !at_high.within(Amount(-1000000), Amount(1000000)) {
-        return Err(Rule::BadSpan);
-    }
-    Ok(Record::Offer(Member(j), Terms::Span(low, high, slope, base)))
-}
-
-// A member's number and units in range, as every offer has them.
-fn fields_fit(j: u8, units: Units) -> bool
-    ensures { result ≡ (is_member j && is_units units.0) }
-{
-    if j < 1 {
-        return false;
-    }
-    if 32 < j {
-        return false;
-    }
-    units.within(Units(-2000), Units(2000))
-}
-
-// The units of record i, if it is an offer's.
-fn units_at(file: &[u8], i: usize) -> Units
+// The bytes of record i.
+fn bytes_at(file: &[u8], i: usize) -> [u8; 8]
     requires { 8 * i + 8 ≤ length file.now }
-    ensures { result.0 ≡ units_at file.now i }
+    ensures { result ≡ bytes_at file.now i }
 {
     let at = 8 * i;
-    Units::from_bits(two(file[at + 2], file[at + 3]))
+    file[at..at + 8].try_into().unwrap()
 }
 
-// The 32 bits of record i's number, if it is an offer's.
-fn bits_at(file: &[u8], i: usize) -> u32
-    requires { 8 * i + 8 ≤ length file.now }
-    ensures { result ≡ four file.now i 4 }
+// An offer's units and its number, from its record's bytes.
+fn units(bytes: [u8; 8]) -> Units
+    ensures { result.0 ≡ units_at bytes 0 }
 {
-    let at = 8 * i;
-    four(file[at + 4], file[at + 5], file[at + 6], file[at + 7])
+    Units(i16::from_le_bytes([bytes[2], bytes[3]]))
 }
 
-// Record i is of this kind and names member j.
-fn names(file: &[u8], i: usize, kind: u8, j: u8) -> bool
-    requires { 8 * i + 8 ≤ length file.now }
-    ensures { result ≡ names file.now i kind j }
+fn number(bytes: [u8; 8]) -> u32
+    ensures { result ≡ four bytes 0 4 }
 {
-    let at = 8 * i;
-    if file[at] != kind {
-        return false;
+    u32::from_le_bytes([bytes[4], bytes[5], bytes[6], bytes[7]])
+}
+
+// The record is of this kind and names this member.
+#[tactic(auto, unfolding(crate::specs::inner::Cases::kind_number))]
+fn names(bytes: [u8; 8], kind: Kind, member: Member) -> bool
+    ensures { result ≡ names bytes 0 (kind_number kind) member.0 }
+{
+    bytes[0] == kind as u8 && bytes[1] == member.0
+}
+
+// An offer's member and units, if they are in range.
+#[tactic(auto, unfolding(crate::specs::inner::Cases::fields_of))]
+fn fields(bytes: [u8; 8]) -> Result<(Member, Units), Rule>
+    ensures { result ≡ fields_of bytes }
+{
+    let member = Member(bytes[1]);
+    let units = units(bytes);
+    if matches!(member.0, 1..=MEMBERS) && units.within(LEAST_UNITS, MOST_UNITS) {
+        Ok((member, units))
+    } else {
+        Err(Rule::OutOfRange)
     }
-    file[at + 1] == j
 }
 
-// Record i, of kind 1.
-#[tactic(auto, unfolding(crate::specs::Records::link_at))]
-fn link_at(file: &[u8], i: usize) -> Result<Record, Rule>
-    requires { 8 * i + 8 ≤ length file.now }
-    ensures { result ≡ reading_of (link_at file.now i) }
+// Money that is in a price's range.
+fn is_price(amount: Amount) -> bool
+    ensures { result ≡ is_price amount.0 }
 {
-    let at = 8 * i;
-    let capacity = two(file[at + 4], file[at + 5]);
-    link_of(
-        file[at + 1],
-        file[at + 2],
-        file[at + 3],
-        capacity,
-        file[at + 6],
-        file[at + 7],
-    )
+    amount.within(LOWEST_PRICE, HIGHEST_PRICE)
 }
 
-// Record i, of kind 2.
-#[tactic(auto, unfolding(crate::specs::Records::point_at))]
-fn point_at(file: &[u8], i: usize) -> Result<Record, Rule>
-    requires { 8 * i + 8 ≤ length file.now }
-    ensures { result ≡ reading_of (point_at file.now i) }
+// A record of kind 1.
+#[tactic(auto, unfolding(crate::specs::Records::link_at, crate::specs::Records::link_of, crate::specs::inner::Cases::reading_of, crate::specs::inner::Cases::rule_of))]
+fn link(bytes: [u8; 8]) -> Result<Record, Rule>
+    ensures { result ≡ reading_of (link_at bytes 0) }
 {
-    let units = units_at(file, i);
-    let price = Price::from_bits(bits_at(file, i));
-    point_of(file[8 * i + 1], units, price)
-}
-
-// Record i, of kind 6: a span whose other record must follow.
-#[tactic(auto, unfolding(crate::specs::Records::unfinished, crate::specs::Records::begin_at, crate::specs::inner::Cases::reading_of, crate::specs::inner::Cases::rule_of))]
-fn begin_at(file: &[u8], i: usize) -> Result<Record, Rule>
-    requires { 8 * i + 8 ≤ length file.now }
-    ensures { result ≡ reading_of (begin_at file.now i) }
-{
-    let j = file[8 * i + 1];
-    if !fields_fit(j, units_at(file, i)) {
+    let [_, a, b, 0, low, high, 0, 0] = bytes else {
         return Err(Rule::OutOfRange);
+    };
+    let capacity = u16::from_le_bytes([low, high]);
+    if 1 <= a && a < b && b <= MEMBERS && capacity <= CAPACITY {
+        Ok(Record::Link(Member(a), Member(b), Units::of(capacity)))
+    } else {
+        Err(Rule::OutOfRange)
     }
-    let next = i + 1;
-    if file.len() / 8 <= next {
-        return Err(Rule::Unpaired);
-    }
-    if !names(file, next, 7, j) {
-        return Err(Rule::Unpaired);
-    }
-    Ok(Record::Begins(Member(j)))
 }
 
-// Record i, of kind 7: the span that the record before it begins.
-#[tactic(auto, unfolding(crate::specs::Records::unbegun, crate::specs::Records::span_at, crate::specs::inner::Cases::reading_of, crate::specs::inner::Cases::rule_of))]
-fn span_at(file: &[u8], i: usize) -> Result<Record, Rule>
-    requires { 8 * i + 8 ≤ length file.now }
-    ensures { result ≡ reading_of (span_at file.now i) }
+// A record of kind 2.
+#[tactic(auto, unfolding(crate::specs::Records::point_at, crate::specs::Records::point_of, crate::specs::inner::Cases::fields_of, crate::specs::inner::Cases::reading_of, crate::specs::inner::Cases::terms_of, crate::specs::inner::Cases::rule_of))]
+fn point(bytes: [u8; 8]) -> Result<Record, Rule>
+    ensures { result ≡ reading_of (point_at bytes 0) }
 {
-    let j = file[8 * i + 1];
-    let high = units_at(file, i);
-    if !fields_fit(j, high) {
-        return Err(Rule::OutOfRange);
+    let (member, units) = fields(bytes)?;
+    let price = Price::from_bits(number(bytes));
+    if is_price(Amount::from(price)) {
+        Ok(Record::Offer(member, Terms::Point(units, price)))
+    } else {
+        Err(Rule::OutOfRange)
     }
-    if i == 0 {
-        return Err(Rule::Unpaired);
+}
+
+// A span, from the bytes of its two records.
+#[tactic(auto, unfolding(crate::specs::Records::span_of, crate::specs::Records::bad_span, crate::specs::inner::Cases::reading_of, crate::specs::inner::Cases::terms_of, crate::specs::inner::Cases::rule_of))]
+fn span(first: [u8; 8], last: [u8; 8]) -> Result<Record, Rule>
+    ensures { result ≡ reading_of (span_of (byte last 0 1) (units_at first 0) (units_at last 0) (number_at last 0) (number_at first 0)) }
+{
+    let (low, high) = (units(first), units(last));
+    let (slope, base) = (
+        Slope::from_bits(number(last)),
+        Price::from_bits(number(first)),
+    );
+    if low <= high && is_price(slope.amount(low, base)) && is_price(slope.amount(high, base)) {
+        Ok(Record::Offer(Member(last[1]), Terms::Span(low, high, slope, base)))
+    } else {
+        Err(Rule::BadSpan)
     }
-    let first = i - 1;
-    if !names(file, first, 6, j) {
-        return Err(Rule::Unpaired);
-    }
-    let low = units_at(file, first);
-    let slope = Slope::from_bits(bits_at(file, i));
-    let base = Price::from_bits(bits_at(file, first));
-    span_of(j, low, high, slope, base)
 }
 
 // Record i of the file, kind before fields.
-#[tactic(auto, unfolding(crate::specs::Records::entry_at, crate::specs::inner::Cases::reading_of, crate::specs::inner::Cases::rule_of))]
+#[tactic(auto, unfolding(crate::specs::Records::entry_at, crate::specs::Records::unbegun, crate::specs::Records::link_at, crate::specs::Records::point_at, crate::specs::Records::begin_at, crate::specs::Records::unfinished, crate::specs::Records::span_at, crate::specs::inner::Cases::kind_number, crate::specs::inner::Cases::fields_of, crate::specs::inner::Cases::reading_of, crate::specs::inner::Cases::rule_of))]
 pub fn read_at(file: &[u8], i: usize) -> Result<Record, Rule>
     requires { 8 * i + 8 ≤ length file.now }
     ensures { result ≡ reading_of (entry_at file.now i) }
 {
-    let kind = file[8 * i];
-    if kind == 1 {
-        return link_at(file, i);
+    let bytes = bytes_at(file, i);
+    match Kind::try_from(bytes[0])? {
+        Kind::Link => link(bytes),
+        Kind::Point => point(bytes),
+        Kind::Begin => {
+            let (member, _) = fields(bytes)?;
+            if i + 1 < file.len() / 8 && names(bytes_at(file, i + 1), Kind::End, member) {
+                Ok(Record::Begins(member))
+            } else {
+                Err(Rule::Unpaired)
+            }
+        }
+        Kind::End => {
+            let (member, _) = fields(bytes)?;
+            if i == 0 {
+                return Err(Rule::Unpaired);
+            }
+            let first = bytes_at(file, i - 1);
+            if names(first, Kind::Begin, member) {
+                span(first, bytes)
+            } else {
+                Err(Rule::Unpaired)
+            }
+        }
+        Kind::Member | Kind::Flow | Kind::Total => Err(Rule::UnknownKind),
     }
-    if kind == 2 {
-        return point_at(file, i);
-    }
-    if kind == 6 {
-        return begin_at(file, i);
-    }
-    if kind == 7 {
-        return span_at(file, i);
-    }
-    Err(Rule::UnknownKind)
 }
 
 // Refusals 1 to 4, 13 and 14.

@@ -1,13 +1,16 @@
 -- What each case of the enums holds, in the numbers and values of docs/RULES.md.
 use Rattle.std.proofs.Math.Option.{Option, none, some}
-use Rattle.std.specs.Prelude.{ℕ, pos, cond, eqb, Result, Ok, Err, ⊤}
+use Rattle.std.specs.Prelude.{ℕ, ◌≡◌, ◌<◌, ◌⊎◌, pos, cond, eqb, List, [], ◌∷◌, Result, Ok, Err, MatchResult, ⊤}
+use Rattle.numbers.specs.declared.Member.{Member}
+use Rattle.numbers.specs.declared.Units.{Units}
 use Rattle.numbers.specs.inner.Held.{member, units, price, slope}
 use Rattle.problem.specs.Problem as P
 use Rattle.records.specs.declared.Terms.{Terms}
 use Rattle.records.specs.declared.Record.{Record}
 use Rattle.records.specs.declared.Rule.{Rule}
+use Rattle.records.specs.declared.Kind.{Kind}
 use Rattle.records.specs.declared.Refusal.{Refusal}
-use Rattle.records.specs.Records.{Entry}
+use Rattle.records.specs.Records.{Entry, byte, units_at, fields_fit}
 use Rattle.records.specs.Records.Entry.{link, offer, begins, fault}
 use Rattle.records.specs.Refusals as R
 
@@ -49,6 +52,28 @@ refusal_of f = record { rule = rule_of f.number; place = f.place }
 -- and back
 unfoldable pub refusal_in : Refusal → R.Refusal
 refusal_in r = record { number = number_of r.rule; place = r.place }
+
+-- a kind's number
+unfoldable pub kind_number : Kind → ℕ
+kind_number Kind.Link = 1
+kind_number Kind.Point = 2
+kind_number Kind.Member = 3
+kind_number Kind.Flow = 4
+kind_number Kind.Total = 5
+kind_number Kind.Begin = 6
+kind_number Kind.End = 7
+
+-- a byte is a kind's number, or no kind has it
+abbrev pub KindOf : ℕ → Result Kind Rule → Type 0
+KindOf k r = MatchResult r (λ kind. kind_number kind ≡ k) (λ rule. (rule ≡ Rule.UnknownKind) × ((k < 1) ⊎ (7 < k)))
+
+-- the bytes of record i; by themselves they are a file of one record
+abbrev pub bytes_at : List ℕ → ℕ → List ℕ
+bytes_at f i = byte f i 0 ∷ byte f i 1 ∷ byte f i 2 ∷ byte f i 3 ∷ byte f i 4 ∷ byte f i 5 ∷ byte f i 6 ∷ byte f i 7 ∷ []
+
+-- the member and the units of such a record, if they are in range
+unfoldable pub fields_of : List ℕ → Result (Member × Units) Rule
+fields_of b = cond (fields_fit b 0) (Ok (member (byte b 0 1), units (units_at b 0))) (Err Rule.OutOfRange)
 
 unfoldable pub reading_of : Entry → Result Record Rule
 reading_of (link l) = Ok (Record.Link (member l.a) (member l.b) (units (pos l.capacity)))
