@@ -9,8 +9,8 @@ use native.Mathlib.Nat.{sub-zero}
 use native.Mathlib.Omega.{arith}
 use lib.IntN.{ℤ, pos, ◌+ℤ◌, zero-*ℤ}
 use lib.ListN.{length}
-use denote.Enum.Declared.{tag_of}
-use types.Run.{OneOf}
+use Rattle.std.specs.Prelude.{Result, Ok, Err, Some, None}
+use Rattle.std.specs.Result.{result_ok}
 use Rattle.numbers.specs.Whole.{eq_z, within}
 use Rattle.numbers.specs.declared.Member.{Member}
 use Rattle.numbers.proofs.Signs.{up, dn, added, equal, le_to, le_from}
@@ -20,16 +20,15 @@ use Rattle.problem.specs.Problem.{Offer, worth, offered, higher, value}
 use Rattle.problem.proofs.Prices.{cell_of, Low, Limited, limited_low, Worths, Priced, worths_map, value_keeps}
 use Rattle.problem.proofs.Values.{own_offered, other_offered, higher_none}
 use Rattle.records.specs.declared.Terms.{Terms}
-use Rattle.records.specs.declared.Reading.{Reading}
+use Rattle.records.specs.declared.Record.{Record}
+use Rattle.records.specs.declared.Rule.{Rule}
 use Rattle.records.specs.Records.{Entry, byte, entry_at, entries_from, entries}
 use Rattle.records.specs.Records.Entry.{link, offer, begins, fault}
 use Rattle.records.specs.inner.Cases.{terms_in, reading_of}
 use Rattle.records.specs.Market.{offers_of}
 use Rattle.records.proofs.Entries.{rest, ended, offer_is, not_offer, kind_6, Fits, MemberIs, Known, entry_known, by_record}
 use Rattle.rows.specs.declared.Span.{Span}
-use Rattle.rows.specs.declared.Offered.{Offered}
-use Rattle.rows.specs.inner.Rows.{given, spanned, cell_in, Ranged, Offers}
-use Rattle.rows.specs.contracts.Offered as Shape
+use Rattle.rows.specs.inner.Rows.{given, spanned, cell_in, Offers}
 use Rattle.rows.proofs.Prices.{cell_higher, cell_top}
 
 -- ---- the records es after the record e
@@ -82,6 +81,10 @@ module _ (f : List ℕ) (n j : ℕ) (x : ℤ) where
   left_more c d i h e =
       omega (arith, ap (λ (es : List Entry). cell_of 1000000 (value (offers_of es) j x)) (rest f i n h) ∙ cell_cons 1000000 j x (entry_at f i) (entries_from f (i + 1) (n - (i + 1))))
 
+ok_is : (r : Result Record Rule) (k : Record) → Some k ≡ result_ok r → r ≡ Ok k
+ok_is (Ok x) k e = cc
+ok_is (Err x) k e = cc
+
 -- ---- what record i gives member j; r is its reading
 module _ (j : ℕ) (x : ℤ) where
   other : (k : ℕ) (e : Entry) → MemberIs k e → (k ≡ j → ⊥) → cell_of 1000000 (value (offers_of (e ∷ [])) j x) ≡ 0
@@ -113,43 +116,35 @@ module _ (f : List ℕ) (i : ℕ) where
   unfolding given
   a_beginning e j x = not_offered j x (entry_at f i) (kind_6 f i e)
 
-  module _ (r : Reading) (is : r ≡ reading_of (entry_at f i)) where
-    pub no_offer_lem : ((m : Member) (t : Terms) → r ≡ Reading.Offer m t → ⊥) → (j : ℕ) (x : ℤ) → given f i j x ≡ 0
+  module _ (r : Result Record Rule) (is : r ≡ reading_of (entry_at f i)) where
+    none_read : ((m : Member) (t : Terms) → r ≡ Ok (Record.Offer m t) → ⊥) → (j : ℕ) (x : ℤ) → given f i j x ≡ 0
     unfolding given
-    no_offer_lem t j x = not_offered j x (entry_at f i) (not_offer r (entry_at f i) is t)
+    none_read d j x = not_offered j x (entry_at f i) (not_offer r (entry_at f i) is d)
 
-    module _ (m : Member) (t : Terms) (e : r ≡ Reading.Offer m t) where
-      entry_is : entry_at f i ≡ offer (record { member = m.0; terms = terms_in t })
-      entry_is = offer_is (entry_at f i) m t (sym is ∙ e)
+    pub a_fault : None ≡ result_ok r → (j : ℕ) (x : ℤ) → given f i j x ≡ 0
+    a_fault e = none_read (λ m t q. let s = e ∙ ap result_ok q in cc (s))
 
-      known : Known (byte f i 1) (offer (record { member = m.0; terms = terms_in t }))
-      known = rw entry_is at (entry_known f i)
+    -- k is the record that is read
+    module _ (k : Record) (e : Some k ≡ result_ok r) where
+      pub no_offer : ((m : Member) (t : Terms) → k ≡ Record.Offer m t → ⊥) → (j : ℕ) (x : ℤ) → given f i j x ≡ 0
+      no_offer d = none_read (λ m t q. let s = e ∙ ap result_ok q in d m t (cc (s)))
 
-      gives : (j : ℕ) → byte f i 1 ≡ j → (x : ℤ) → given f i j x ≡ cell_of 1000000 (worth (terms_in t) x)
-      unfolding given
-      gives j h x =
-          ap (λ (k : Entry). cell_of 1000000 (value (offers_of (k ∷ [])) j x)) entry_is
-          ∙ its_offer j x (record { member = m.0; terms = terms_in t }) (known.member_is ∙ h)
+      module _ (m : Member) (t : Terms) (o : k ≡ Record.Offer m t) where
+        entry_is : entry_at f i ≡ offer (record { member = m.0; terms = terms_in t })
+        entry_is = offer_is (entry_at f i) m t (sym is ∙ ok_is r (Record.Offer m t) (ap (λ (q : Record). Some q) (sym o) ∙ e))
 
-      pub an_offer : (j : ℕ) → byte f i 1 ≡ j → (s : Span) → ((x : ℤ) → worth (terms_in t) x ≡ worth (spanned s) x) → Offers (given f i j) (Offered.Span s)
-      unfolding cell_in
-      an_offer j h s same =
-          Offers.span (λ x. subst (Limited 1000000) (same x) (known.fits.worths x)) (λ x. gives j h x ∙ ap (cell_of 1000000) (same x))
+        known : Known (byte f i 1) (offer (record { member = m.0; terms = terms_in t }))
+        known = rw entry_is at (entry_known f i)
 
--- ---- what is offered, taken apart
-module _ {g : ℤ → ℕ} {o : Offered} (s : Span) (e : o ≡ Offered.Span s) (h : Offers g o) where
-  its_span : Offers g (Offered.Span s)
-  its_span = subst (Offers g) e h
+        gives : (j : ℕ) → byte f i 1 ≡ j → (x : ℤ) → given f i j x ≡ cell_of 1000000 (worth (terms_in t) x)
+        unfolding given
+        gives j h x =
+            ap (λ (z : Entry). cell_of 1000000 (value (offers_of (z ∷ [])) j x)) entry_is
+            ∙ its_offer j x (record { member = m.0; terms = terms_in t }) (known.member_is ∙ h)
 
-  pub span_ranged : Ranged s
-  span_ranged = elim its_span [ Offers.span r c ↦ r ]
-
-  pub span_gives : (x : ℤ) → g x ≡ cell_in s x
-  span_gives = elim its_span [ Offers.span r c ↦ c ]
-
-pub nothing_gives : {g : ℤ → ℕ} {o : Offered} → OneOf (1 ∷ []) (tag_of Shape.the_type o) → Offers g o → (x : ℤ) → g x ≡ 0
-nothing_gives t (Offers.span r c) x = absurd (omega (arith, t))
-nothing_gives t (Offers.nothing c) x = c x
+        pub an_offer : (j : ℕ) → byte f i 1 ≡ j → (s : Span) → ((x : ℤ) → worth (terms_in t) x ≡ worth (spanned s) x) → Offers (given f i j) (Some s)
+        unfolding cell_in
+        an_offer j h s same = (λ x. subst (Limited 1000000) (same x) (known.fits.worths x), λ x. gives j h x ∙ ap (cell_of 1000000) (same x))
 
 -- ---- a point is a span of its own units alone
 alone : (u x : ℤ) → eq_z x u ≡ within u u x

@@ -1,22 +1,19 @@
 -- A span taken into a row, cell by cell: which cells it covers, and what each of them becomes. Assumes nothing.
 use mathlib.Core.Path.{◌≡◌, refl, sym, ap, ◌∙◌, subst}
-use mathlib.Core.Bool.{Bool, true, false, cond, not, ◌&&◌}
+use mathlib.Core.Bool.{Bool, true, false, cond, ◌&&◌}
 use mathlib.Core.List.{List}
 use mathlib.Core.Option.{none, some}
-use Prim.Native.Nat.{ℕ, ◌+◌, ◌^◌, ◌≤◌, ◌<◌, max, zero-le}
+use Prim.Native.Nat.{ℕ, ◌+◌, ◌^◌, ◌≤◌, ◌<◌, max}
 use native.Mathlib.Omega.{arith}
-use lib.Dec.{T, leb, ltb, eqb}
-use lib.IntN.{ℤ, pos, negsuc, neg_ℤ, nat_abs, ◌+ℤ◌, ◌-ℤ◌, ◌*ℤ◌}
+use lib.Dec.{leb, ltb, eqb}
+use lib.IntN.{ℤ, pos, neg_ℤ, nat_abs, ◌+ℤ◌, ◌-ℤ◌, ◌*ℤ◌}
 use lib.ListN.{length, get_or, set, length-set}
 use lib.Seq.{get_or-set_same, get_or-set_other}
-use lib.Signed.{le_z, lt_z, non_neg}
-use denote.Floats.{passes, is_true}
-use mir.Syntax.{w32, w64}
-use mir.Val.{SFits, Fits}
-use borrow.Author.Tests.{le-leb, lt-leb, leb-true, leb-false, lt-ltb, le-ltb, ltb-true, ltb-false, eqb-true, eqb-false}
+use lib.Signed.{le_z}
+use borrow.Author.Tests.{le-leb, lt-leb, lt-ltb, le-ltb, ltb-true, ltb-false, eqb-true, eqb-false}
 use Rattle.numbers.specs.Whole.{within}
-use Rattle.numbers.proofs.Signs.{up, dn, added, taken, up_neg, dn_neg, equal, le_to, le_from, lt_to}
-use Rattle.numbers.proofs.Tests.{true_false, bool_cases, le_z_lt_z, le_z_agree, true_within}
+use Rattle.numbers.proofs.Signs.{up, dn, added, taken, up_neg, dn_neg, equal, le_to}
+use Rattle.numbers.proofs.Tests.{bool_cases, true_within}
 use Rattle.numbers.proofs.Times.{abs_parts, times_less}
 use Rattle.problem.specs.Problem.{worth}
 use Rattle.problem.proofs.Choices.{apart}
@@ -65,53 +62,8 @@ module _ (s : Span) where
 
 -- ---- where a span starts and ends in a row whose cell 0 is for t units
 
-exchanged : (a b c : ℤ) → a -ℤ b ≡ c → b ≡ a -ℤ c
+pub exchanged : (a b c : ℤ) → a -ℤ b ≡ c → b ≡ a -ℤ c
 exchanged a b c e = equal b (a -ℤ c) (omega (arith, taken a c, taken a b, ap up e, ap dn e))
-
--- high is k units below the top
-module _ (t high : ℤ) (k : ℕ) (e : t -ℤ high ≡ pos k) where
-  pub start_units : high ≡ t -ℤ pos k
-  start_units = exchanged t high (pos k) e
-
-  pub start_place : (x : ℕ) → le_z (t -ℤ pos x) high ≡ leb k x
-  start_place x =
-      le_z_agree (t -ℤ pos x) high (pos k) (pos x)
-      (λ h. le_from (pos k) (pos x) (omega (arith, le_to h, taken t (pos x), taken t high, ap up e, ap dn e)))
-      (λ h. le_from (t -ℤ pos x) high (omega (arith, le_to h, taken t (pos x), taken t high, ap up e, ap dn e)))
-
-pub start_top : (t high : ℤ) → lt_z high t ≡ false → (t ≡ t -ℤ pos 0) × ((x : ℕ) → le_z (t -ℤ pos x) high ≡ leb 0 x)
-start_top t high e = (
-  equal t (t -ℤ pos 0) (omega (arith, taken t (pos 0))),
-  λ x. is_true (le_z (t -ℤ pos x) high) (le_from (t -ℤ pos x) high (omega (arith, taken t (pos x), le_to {a = t} {b = high} (record { le = passes (le_z t high) (le_z_lt_z high t ∙ ap not e) })))).le
-      ∙ sym (le-leb 0 x zero-le),
-)
-
-low_place : (t low : ℤ) (x : ℕ) → le_z low (t -ℤ pos x) ≡ le_z (pos x) (t -ℤ low)
-low_place t low x =
-    le_z_agree low (t -ℤ pos x) (pos x) (t -ℤ low) (λ h. le_from (pos x) (t -ℤ low) (omega (arith, le_to h, taken t (pos x), taken t low)))
-    (λ h. le_from low (t -ℤ pos x) (omega (arith, le_to h, taken t (pos x), taken t low)))
-
-module _ (t low : ℤ) where
-  pub cells_none : (r : ℤ) → r ≡ t -ℤ low → lt_z r (pos 0) ≡ true → (x : ℕ) → le_z low (t -ℤ pos x) ≡ ltb x 0
-  cells_none (pos k) e h x = absurd (omega (arith, ltb-true k 0 h))
-  cells_none (negsuc k) e h x = low_place t low x ∙ ap (λ (z : ℤ). le_z (pos x) z) (sym e) ∙ sym (le-ltb x 0 zero-le)
-
-  pub cells_some : (k : ℕ) → pos k ≡ t -ℤ low → (x : ℕ) → le_z low (t -ℤ pos x) ≡ ltb x (k + 1)
-  cells_some k e x = low_place t low x ∙ ap (λ (z : ℤ). le_z (pos x) z) (sym e) ∙ up_to
-    where
-      up_to : leb x k ≡ ltb x (k + 1)
-      up_to = bool_cases (leb x k) (λ b. b ≡ ltb x (k + 1)) (λ h. sym (lt-ltb x (k + 1) (omega (arith, leb-true x k h)))) (λ h. sym (le-ltb x (k + 1) (omega (arith, leb-false x k h))))
-
--- a place that is not below 0 is an index
-pub index : (z : ℤ) → lt_z z (pos 0) ≡ false → SFits w32 z → T (non_neg z) × Fits w64 (nat_abs z)
-index (pos n) e f = (tt, record { fits = omega (arith, f.sfits) })
-index (negsuc n) e f = absurd (true_false e)
-
--- where high is below the top, its place is not below 0
-pub below_top : (t high z : ℤ) → z ≡ t -ℤ high → lt_z high t ≡ true → lt_z z (pos 0) ≡ false
-below_top t high (pos k) e h = le-ltb k 0 zero-le
-below_top t high (negsuc k) e h =
-    absurd (omega (arith, lt_to {a = high} {b = t} (record { lt = passes (lt_z high t) h }), taken t high, ap up e, ap dn e))
 
 -- the cells of a row of n from `from` on that are below `end`
 pub record Covered (s : Span) (top : ℤ) (n from end : ℕ) : Type 0 where
@@ -179,8 +131,3 @@ module _ (s : Span) (top : ℤ) (row₀ : List ℕ) (from end : ℕ) (C : Covere
     put_done h y l =
         bool_cases (ltb y x) (λ t. get_or row y 0 ≡ max (get_or row₀ y 0) (cell_in s (top -ℤ pos y))) (λ t. I.put y (ltb-true y x t) l)
         (λ t. omega (arith, I.left y (ltb-false y x t), after s top (length row₀) from end C y l (omega (arith, ltb-false y x t))))
-
--- the same without naming the span
-abbrev pub Put : List ℕ → ℕ → ℤ → ℤ → ℕ → List ℕ → ℤ → ℕ → Type 0
-Put row₀ end slope p₀ from row p x =
-    (s : Span) (top : ℤ) → s.slope.0 ≡ slope → Covered s top (length row₀) from end → p₀ ≡ on_line s (top -ℤ pos from) → Putting s top from x p row₀ row

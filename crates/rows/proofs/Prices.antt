@@ -8,6 +8,7 @@ use lib.IntN.{ℤ, pos, neg_ℤ, ◌+ℤ◌, ◌-ℤ◌}
 use lib.Signed.{le_z, lt_z, ◌≤ℤ◌}
 use denote.Floats.{passes}
 use borrow.Author.Tests.{not-false}
+use Rattle.std.specs.Prelude.{Some, None}
 use Rattle.numbers.specs.declared.Price.{Price}
 use Rattle.numbers.specs.inner.Held.{price}
 use Rattle.numbers.proofs.Signs.{up, dn, added, taken, up_neg, dn_neg, equal, le_to, lt_to}
@@ -15,7 +16,6 @@ use Rattle.numbers.proofs.Tests.{bool_cases, le_z_lt_z}
 use Rattle.problem.specs.Problem.{higher}
 use Rattle.problem.proofs.Choices.{apart}
 use Rattle.problem.proofs.Prices.{cell_of, Limited}
-use Rattle.rows.specs.declared.Worth.{Worth}
 use Rattle.rows.specs.inner.Rows.{worth_of}
 
 -- ---- cells keep the order of prices
@@ -44,15 +44,15 @@ cell_top B none h = omega arith
 cell_top B (some p) h = omega (arith, le_to h.1, added p (pos B), apart (p +ℤ pos B))
 
 -- ---- from a cell back to its price
-pub none_back : (B : ℕ) (v : Option ℤ) → cell_of B v ≡ 0 → Worth.Nothing ≡ worth_of v
-unfolding cell_of worth_of
+pub none_back : (B : ℕ) (v : Option ℤ) → cell_of B v ≡ 0 → None ≡ worth_of v
+unfolding cell_of
 none_back B none e = refl
 none_back B (some p) e = absurd (omega arith)
 
-pub price_back : (B : ℕ) (v : Option ℤ) (q : Price) → Limited B v → 1 ≤ cell_of B v → q.0 ≡ pos (cell_of B v - 1) -ℤ pos B → Worth.Price q ≡ worth_of v
-unfolding cell_of worth_of
+pub price_back : (B : ℕ) (v : Option ℤ) (q : Price) → Limited B v → 1 ≤ cell_of B v → q.0 ≡ pos (cell_of B v - 1) -ℤ pos B → Some q ≡ worth_of v
+unfolding cell_of
 price_back B none q l h e = absurd (omega arith)
 price_back B (some p) q l h e =
     let n = suc (up (p +ℤ pos B)) in
-    ap (λ (z : ℤ). Worth.Price (price z))
+    ap (λ (z : ℤ). Some (price z))
     (e ∙ equal (pos (n - 1) -ℤ pos B) p (omega (arith, taken (pos (n - 1)) (pos B), added p (pos B), apart (p +ℤ pos B), le_to l.0, up_neg (pos B), dn_neg (pos B))))

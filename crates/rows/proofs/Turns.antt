@@ -1,55 +1,50 @@
 -- Sums of cells, and turns of the search for a cell's best and of the pass over a row. Assumes nothing.
 use mathlib.Core.Path.{◌≡◌, refl, sym, ap, subst, ◌∙◌}
 use mathlib.Core.List.{List}
-use mathlib.Core.Logic.{inl, inr}
+use mathlib.Core.Logic.{◌⊎◌, inl, inr}
 use Prim.Native.Nat.{ℕ, zero, suc, ◌+◌, ◌-◌, ◌<◌, ◌≤◌}
 use native.Mathlib.Nat.{eq-or-lt_of_le}
-use native.Mathlib.Numerals.{add-one}
 use native.Mathlib.Omega.{arith}
 use lib.ListN.{length, get_or, set, length-set}
 use lib.Seq.{get_or-set_same, get_or-set_other}
-use borrow.Author.Count.{below_none}
 use borrow.Author.Tests.{lt-ltb, le-ltb}
 use Rattle.problem.proofs.Cell.{◌⊕◌, ⊕_comm}
 use Rattle.problem.proofs.Max.{max_to, argmax}
 use Rattle.rows.specs.inner.Rows.{meets}
 
 -- ---- the sum of two cells
-pub none_left : (a b : ℕ) → a ≡ 0 → 0 ≡ a ⊕ b
+pub one_none : (a b : ℕ) → (a ≡ 0) ⊎ ((a ≡ 0 → ⊥) × (b ≡ 0)) → 0 ≡ a ⊕ b
 unfolding ◌⊕◌
-none_left a b e = rw e
+one_none a b (inl e) = rw e
+one_none a b (inr n) = rw n.1 (⊕_comm 0 a)
 
-pub none_right : (a b : ℕ) → b ≡ 0 → 0 ≡ a ⊕ b
-none_right a b e = none_left b a e ∙ ⊕_comm b a
-
-pub both : (a b : ℕ) → (a ≡ 0 → ⊥) → (b ≡ 0 → ⊥) → a + b - 1 ≡ a ⊕ b
+pub both : (a b : ℕ) → (a ≡ 0 → ⊥) × (b ≡ 0 → ⊥) → a + b - 1 ≡ a ⊕ b
 unfolding ◌⊕◌
-both zero b n m = absurd (n refl)
-both (suc a) zero n m = absurd (m refl)
-both (suc a) (suc b) n m = omega arith
+both zero b n = absurd (n.0 refl)
+both (suc a) zero n = absurd (n.1 refl)
+both (suc a) (suc b) n = omega arith
 
--- ---- the best of places 0 to p + 1: s, at the new place, or what it was
-module _ (f : ℕ → ℕ) (p best s : ℕ) (eb : best ≡ max_to f p) (es : s ≡ f (p + 1)) where
-  pub better : best < s → (s ≡ max_to f (p + 1)) × (p + 1 ≡ argmax f (p + 1))
-  unfolding max_to argmax
-  better h =
-      let z : s ≡ f (suc p) = es ∙ ap f (add-one p) in
-      rw (add-one, lt-ltb (max_to f p) (f (suc p)) (omega arith)) (omega arith, refl)
+-- ---- the best of the places below p + 1, and the first that has it: s, at place p, or what they were
+module _ (f : ℕ → ℕ) (p best pick s : ℕ) (l : 1 ≤ p) (i : (best ≡ max_to f (p - 1)) × (pick ≡ argmax f (p - 1))) (es : s ≡ f p) where
+  at_p : s ≡ f (suc (p - 1))
+  at_p = es ∙ ap f (omega arith)
 
-  pub no_better : (pick : ℕ) → pick ≡ argmax f p → s ≤ best → (best ≡ max_to f (p + 1)) × (pick ≡ argmax f (p + 1))
+  next : p + 1 - 1 ≡ suc (p - 1)
+  next = omega arith
+
+  pub better : best < s → (s ≡ max_to f (p + 1 - 1)) × (p ≡ argmax f (p + 1 - 1))
   unfolding max_to argmax
-  no_better pick ek h =
-      let z : s ≡ f (suc p) = es ∙ ap f (add-one p) in
-      rw (add-one, le-ltb (max_to f p) (f (suc p)) (omega arith)) (omega arith, ek)
+  better h = rw (next, lt-ltb (max_to f (p - 1)) (f (suc (p - 1))) (omega (arith, at_p, i.0))) (omega (arith, at_p, i.0), omega arith)
+
+  pub no_better : s ≤ best → (best ≡ max_to f (p + 1 - 1)) × (pick ≡ argmax f (p + 1 - 1))
+  unfolding max_to argmax
+  no_better h = rw (next, le-ltb (max_to f (p - 1)) (f (suc (p - 1))) (omega (arith, at_p, i.0))) (omega (arith, at_p, i.0), i.1)
 
 -- ---- a row whose cells below x are made, and whose cells from x on are as they were
 pub record Made (f : ℕ → ℕ) (old row : List ℕ) (x : ℕ) : Type 0 where
   pub len : length row ≡ length old
   pub cells : (y : ℕ) → y < x → get_or row y 0 ≡ f y
   pub past : (y : ℕ) → x ≤ y → get_or row y 0 ≡ get_or old y 0
-
-pub none_made : (f : ℕ → ℕ) (row : List ℕ) → Made f row row 0
-none_made f row = record { len = refl; cells = below_none _; past = λ y h. refl }
 
 pub one_made : {f : ℕ → ℕ} {old row : List ℕ} {x v : ℕ} → Made f old row x → x < length row → v ≡ f x → Made f old (set row x v) (x + 1)
 one_made {f} {old} {row} {x} {v} m l e = record {

@@ -3,7 +3,7 @@
 // Prices become cells in `cell_of` and cells become prices in `total_of`, nowhere else.
 #![tactic(auto)]
 
-ghost use Rattle.std.specs.Prelude.{◌≡◌, true, ℕ, ◌+◌, ◌*◌, ◌-◌, ◌^◌, ◌≤◌, ◌<◌, max, leb, ltb, ℤ, pos, neg_ℤ, ◌-ℤ◌, length, get_or};
+ghost use Rattle.std.specs.Prelude.{◌≡◌, true, ℕ, ◌+◌, ◌*◌, ◌-◌, ◌^◌, ◌≤◌, ◌<◌, max, leb, ltb, ℤ, pos, neg_ℤ, ◌-ℤ◌, ◌≤ℤ◌, length, get_or};
 ghost use Rattle.std.proofs.Math.Option.{some};
 ghost use Rattle.std.specs.Int.Signed.{le_z};
 ghost use Rattle.numbers.specs.Whole.{within};
@@ -16,16 +16,15 @@ ghost use Rattle.records.specs.Market.{offers_of};
 ghost use Rattle.records.specs.inner.Cases.{terms_in};
 ghost use Rattle.rows.specs.inner.Rows.{given, spanned, cell_in, Ranged, Offers, worth_of, meets, Combined};
 
-use numbers::{Amount, Member, Price, Slope, Units};
-use records::{Reading, Terms};
+use numbers::{Amount, Member, Price, Slope, Units, Whole};
+use records::{Record, Terms};
 
 // The cell of an amount that is in a price's range.
 fn cell_of(p: Amount) -> u32
     requires { within (neg_ℤ (pos 1000000)) (pos 1000000) p.0 ≡ true }
     ensures { result ≡ cell_of 1000000 (some p.0) }
 {
-    let z = p.0;
-    (z + 1000001) as u32
+    (p.number() + 1000001) as u32
 }
 
 // The price of a cell that sums n prices, and is not none.
@@ -66,28 +65,18 @@ fn as_span(t: Terms) -> Span
     }
 }
 
-// What a record offers a member.
-#[derive(Clone, Copy)]
-enum Offered {
-    Span(Span),
-    Nothing,
-}
-
 // What record i offers member j. A record of another member, or one that only begins a span, is not read any further.
-fn offer_at(records: &[u8], i: usize, j: Member) -> Offered
+fn offer_at(records: &[u8], i: usize, j: Member) -> Option<Span>
     requires { 8 * i + 8 ≤ length records.now }
     ensures { Offers (given records.now i j.0) result }
 {
-    if records[8 * i + 1] != j.0 {
-        return Offered::Nothing;
+    if records[8 * i + 1] != j.0 || records[8 * i] == 6 {
+        return None;
     }
-    if records[8 * i] == 6 {
-        return Offered::Nothing;
-    }
-    let Reading::Offer(_, t) = records::read_at(records, i) else {
-        return Offered::Nothing;
+    let Record::Offer(_, t) = records::read_at(records, i).ok()? else {
+        return None;
     };
-    Offered::Span(as_span(t))
+    Some(as_span(t))
 }
 
 // The cell that a span gives for x units.
@@ -95,110 +84,53 @@ fn cell_in(s: Span, x: Units) -> u32
     requires { Ranged s }
     ensures { result ≡ cell_in s x.0 }
 {
-    if !x.within(s.low, s.high) {
-        return 0;
+    if x.within(s.low, s.high) {
+        cell_of(s.slope.amount(x, s.base))
+    } else {
+        0
     }
-    cell_of(s.slope.amount(x, s.base))
 }
 
-// The cell that record i gives member j for x units.
-fn cell_at(records: &[u8], i: usize, j: Member, x: Units) -> u32
-    requires { 8 * i + 8 ≤ length records.now }
-    ensures { result ≡ given records.now i j.0 x.0 }
+// The cell that member j's table gives for x units.
+fn cell_at(records: &[u8], j: Member, x: Units) -> u32
+    ensures { result ≡ cell_of 1000000 (value (offers_of (entries records.now)) j.0 x.0) }
 {
-    let o = offer_at(records, i, j);
-    let Offered::Span(s) = o else {
-        return 0;
-    };
-    cell_in(s, x)
+    let mut best: u32 = 0;
+    for i in 0..records.len() / 8 {
+        if let Some(s) = offer_at(records, i, j) {
+            best = best.max(cell_in(s, x));
+        }
+    }
+    best
 }
 
-// The higher of two cells.
-fn higher(a: u32, b: u32) -> u32
-    ensures { result ≡ max a b }
-{
-    if a < b { b } else { a }
-}
-
-// The worth of some units to a member: the highest price that its table gives for them, or nothing.
-#[derive(Clone, Copy)]
-pub enum Worth {
-    Price(Price),
-    Nothing,
-}
-
-// What x units are worth to member j.
-pub fn value_of(records: &[u8], j: Member, x: Units) -> Worth
+// What x units are worth to member j: the highest price that its table gives for them, or none.
+pub fn value_of(records: &[u8], j: Member, x: Units) -> Option<Price>
     ensures { result ≡ worth_of (value (offers_of (entries records.now)) j.0 x.0) }
 {
-    let n = records.len() / 8;
-    let mut best: u32 = 0;
-    let mut i = 0;
-    while i < n {
-        let c = cell_at(records, i, j, x);
-        best = higher(best, c);
-        i += 1;
-    }
-    if best == 0 {
-        return Worth::Nothing;
-    }
-    Worth::Price(total_of(best, 1))
-}
-
-// Every cell of the row none.
-fn clear_cells(row: &mut [u32])
-    ensures { (x : ℕ) → x < length row.old → get_or row.new x 0 ≡ 0 }
-{
-    let mut x: usize = 0;
-    while x < row.len() {
-        row[x] = 0;
-        x += 1;
+    match cell_at(records, j, x) {
+        0 => None,
+        best => Some(total_of(best, 1)),
     }
 }
 
 // The place of u units in a row whose cell 0 is for top units.
-fn place_of(top: Units, u: Units) -> i32
-    ensures { result ≡ top.0 -ℤ u.0 }
+fn place_of(top: Units, u: Units) -> usize
+    requires { u.0 ≤ℤ top.0 }
+    ensures { pos result ≡ top.0 -ℤ u.0 }
 {
-    let zero = top.0 as i32;
-    let units = u.0 as i32;
-    zero - units
-}
-
-// A cell of a row, and its units.
-#[derive(Clone, Copy)]
-struct Start {
-    place: usize,
-    units: Units,
-}
-
-// The first cell for at most `high` units, in a row whose cell 0 is for top units.
-fn start_at(top: Units, high: Units) -> Start
-    ensures { (result.units.0 ≡ top.0 -ℤ pos result.place) × ((x : ℕ) → le_z (top.0 -ℤ pos x) high.0 ≡ leb result.place x) }
-{
-    if high.below(top) {
-        let place = place_of(top, high) as usize;
-        return Start { place, units: high };
-    }
-    Start {
-        place: 0,
-        units: top,
-    }
+    (top.number() - u.number()) as usize
 }
 
 // How many of n cells are for at least `low` units, in a row whose cell 0 is for top units.
 fn cells_to(top: Units, low: Units, n: usize) -> usize
     ensures { (result ≤ n) × ((x : ℕ) → x < n → le_z low.0 (top.0 -ℤ pos x) ≡ ltb x result) }
 {
-    let last = place_of(top, low);
-    if last < 0 {
+    if top < low {
         return 0;
     }
-    let end = last as usize + 1;
-    if n < end {
-        return n;
-    }
-    end
+    let end = place_of(top, low) + 1;
+    end.min(n)
 }
 
 // A span taken into a row whose cell x is for top - x units: each cell that it covers becomes the higher of what it holds and
@@ -207,60 +139,34 @@ fn put_span(s: Span, top: Units, row: &mut [u32])
     requires { Ranged s }
     ensures { (x : ℕ) → x < length row.old → get_or row.new x 0 ≡ max (get_or row.old x 0) (cell_in s (top.0 -ℤ pos x)) }
 {
-    let start = start_at(top, s.high);
+    let first = s.high.min(top);
+    let start = place_of(top, first);
     let end = cells_to(top, s.low, row.len());
-    let slope = s.slope;
-    let mut p = slope.amount(start.units, s.base);
-    let mut x = start.place;
-    while x < end {
-        let held = row[x];
-        let given = cell_of(p);
-        row[x] = higher(held, given);
-        let next = p.less(slope);
-        p = next;
-        x += 1;
+    let mut p = s.slope.amount(first, s.base);
+    for x in start..end {
+        row[x] = row[x].max(cell_of(p));
+        p = p.less(s.slope);
     }
-}
-
-// Record i taken into member j's row, whose cell x is for top - x units: each cell becomes the higher of what it holds and
-// what the record gives.
-fn put_record(records: &[u8], i: usize, j: Member, top: Units, row: &mut [u32])
-    requires { 8 * i + 8 ≤ length records.now }
-    ensures { (x : ℕ) → x < length row.old → get_or row.new x 0 ≡ max (get_or row.old x 0) (given records.now i j.0 (top.0 -ℤ pos x)) }
-{
-    let o = offer_at(records, i, j);
-    let Offered::Span(s) = o else {
-        return;
-    };
-    put_span(s, top, row);
 }
 
 // Member j's own row: cell x is what its table gives for top - x units.
 pub fn own_row(records: &[u8], j: Member, top: Units, row: &mut [u32])
     ensures { (x : ℕ) → x < length row.old → get_or row.new x 0 ≡ cell_of 1000000 (value (offers_of (entries records.now)) j.0 (top.0 -ℤ pos x)) }
 {
-    clear_cells(row);
-    let n = records.len() / 8;
-    let mut i = 0;
-    while i < n {
-        put_record(records, i, j, top, row);
-        i += 1;
+    row.fill(0);
+    for i in 0..records.len() / 8 {
+        if let Some(s) = offer_at(records, i, j) {
+            put_span(s, top, row);
+        }
     }
 }
 
 // The sum of two cells: none where either is none.
-#[tactic(auto, using(crate::proofs::Turns::none_left, crate::proofs::Turns::none_right, crate::proofs::Turns::both))]
 fn sum(a: u32, b: u32) -> u32
     requires { (a < 2 ^ 31) × (b < 2 ^ 31) }
     ensures { result ≡ a ⊕ b }
 {
-    if a == 0 {
-        return 0;
-    }
-    if b == 0 {
-        return 0;
-    }
-    a + b - 1
+    if a == 0 || b == 0 { 0 } else { a + b - 1 }
 }
 
 #[derive(Clone, Copy)]
@@ -278,9 +184,7 @@ fn cell(row: &[u32], msg: &[u32], x: usize) -> Found
     let w = msg.len() - 1;
     let mut best = sum(msg[0], row[x + w]);
     let mut pick: u8 = 0;
-    let mut p: usize = 0;
-    while p < w {
-        p += 1;
+    for p in 1..msg.len() {
         let s = sum(msg[p], row[x + (w - p)]);
         if best < s {
             best = s;
@@ -296,11 +200,7 @@ pub fn copy_cells(from: &[u32], to: &mut [u32])
     ensures by_index { (x : ℕ) → x < length from.now → get_or to.new x 0 ≡ get_or from.now x 0 }
     ensures past { (x : ℕ) → length from.now ≤ x → get_or to.new x 0 ≡ get_or to.old x 0 }
 {
-    let mut i: usize = 0;
-    while i < from.len() {
-        to[i] = from[i];
-        i += 1;
-    }
+    to[..from.len()].copy_from_slice(from);
 }
 
 // A message taken into a row, with the choice that each cell was made by. The row is worked out where it stands: a cell is made
@@ -311,13 +211,10 @@ pub fn combine(row: &mut [u32], msg: &[u32], choice: &mut [u8])
     requires values { ((y : ℕ) → y < length row.old → get_or row.old y 0 < 2 ^ 31) × ((p : ℕ) → p < length msg.now → get_or msg.now p 0 < 2 ^ 31) }
     ensures { Combined row.old msg.now choice.old row.new choice.new }
 {
-    let w = msg.len() - 1;
-    let left = row.len() - w;
-    let mut x: usize = 0;
-    while x < left {
+    let left = row.len() + 1 - msg.len();
+    for x in 0..left {
         let c = cell(row, msg, x);
         row[x] = c.best;
         choice[x] = c.pick;
-        x += 1;
     }
 }

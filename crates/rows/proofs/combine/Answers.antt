@@ -8,10 +8,8 @@ use Rattle.rows.proofs.combine.Goals as goal
 
 pub loop-x-preserved : goal.loop-x-preserved
 loop-x-preserved c =
-    let a = c.args in
     let i = c.loop-x.invariant in
-    let m = made_meets i.1 a.msg.now in (
-      omega arith,
-      one_made i.1 (omega arith) (c.cell-c.ensures.0 ∙ max_to_ext _ _ _ (λ p _. m p)),
-      one_made i.2 (omega arith) (c.cell-c.ensures.1 ∙ argmax_ext _ _ _ (λ p _. m p)),
+    let m = made_meets i.0 c.args.msg.now in (
+      one_made i.0 (omega arith) (c.cell-c.ensures.0 ∙ max_to_ext _ _ _ (λ p _. m p)),
+      one_made i.1 (omega arith) (c.cell-c.ensures.1 ∙ argmax_ext _ _ _ (λ p _. m p)),
     )

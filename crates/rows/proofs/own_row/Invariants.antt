@@ -1,7 +1,7 @@
 -- `own_row` meets its contract. The loop's invariant: at each place the whole table's cell is the higher of what the row has
 -- and what the records from i on give. Assumes nothing.
 use mathlib.Core.Path.{◌≡◌}
-use Prim.Native.Nat.{ℕ, ◌<◌, ◌≤◌, ◌-◌, ◌/◌, max}
+use Prim.Native.Nat.{ℕ, ◌<◌, max}
 use lib.IntN.{pos, ◌-ℤ◌}
 use lib.ListN.{length, get_or}
 use Rattle.problem.specs.Problem.{value}
@@ -12,8 +12,4 @@ use Rattle.rows.proofs.Gives.{left}
 use Rattle.rows.proofs.own_row.Given as goal
 
 abbrev pub invariant-loop-i : goal.invariant-loop-i
-invariant-loop-i l = (l.n ≡ length l.records / 8) × (l.i ≤ l.n) × (length l.row ≡ length l.initial.row)
-    × ((x : ℕ) → x < length l.row → cell_of 1000000 (value (offers_of (entries l.records)) l.j.0 (l.top.0 -ℤ pos x)) ≡ max (get_or l.row x 0) (left l.records l.n l.j.0 (l.top.0 -ℤ pos x) l.i))
-
-abbrev pub decreases-loop-i : goal.decreases-loop-i
-decreases-loop-i l = l.n - l.i
+invariant-loop-i l = (x : ℕ) → x < length l.row → cell_of 1000000 (value (offers_of (entries l.records)) l.j.0 (l.top.0 -ℤ pos x)) ≡ max (get_or l.row x 0) (left l.records l.i-end l.j.0 (l.top.0 -ℤ pos x) l.i)

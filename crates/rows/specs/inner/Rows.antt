@@ -1,6 +1,7 @@
 -- What one record gives a member, what a span gives, and a message taken into a row, cell by cell.
-use Rattle.std.specs.Prelude.{◌≡◌, List, [], ◌∷◌, ℕ, ◌+◌, ◌-◌, ◌<◌, ◌≤◌, length, get_or, ℤ}
-use Rattle.std.proofs.Math.Option.{Option, none, some}
+use Rattle.std.specs.Prelude.{◌≡◌, List, [], ◌∷◌, ℕ, ◌+◌, ◌-◌, ◌<◌, ◌≤◌, length, get_or, ℤ, Option, Some, None}
+use Rattle.std.proofs.Math.Option as Maybe
+use Rattle.numbers.specs.declared.Price.{Price}
 use Rattle.numbers.specs.inner.Held.{price}
 use Rattle.problem.specs.Problem.{Terms, worth, value}
 use Rattle.problem.proofs.Cell.{◌⊕◌}
@@ -9,8 +10,6 @@ use Rattle.problem.proofs.Prices.{cell_of, Limited}
 use Rattle.records.specs.Records.{entry_at}
 use Rattle.records.specs.Market.{offers_of}
 use Rattle.rows.specs.declared.Span.{Span}
-use Rattle.rows.specs.declared.Offered.{Offered}
-use Rattle.rows.specs.declared.Worth.{Worth}
 
 -- the cell that record i alone gives member j for x units
 unfoldable pub given : List ℕ → ℕ → ℕ → ℤ → ℕ
@@ -28,15 +27,15 @@ cell_in s x = cell_of 1000000 (worth (spanned s) x)
 abbrev pub Ranged : Span → Type 0
 Ranged s = (x : ℤ) → Limited 1000000 (worth (spanned s) x)
 
--- what gives the cell g x for x units is this
-pub data Offers (g : ℤ → ℕ) : Offered → Type 0 where
-  span : {s : Span} → Ranged s → ((x : ℤ) → g x ≡ cell_in s x) → Offers g (Offered.Span s)
-  nothing : ((x : ℤ) → g x ≡ 0) → Offers g Offered.Nothing
+-- what gives the cell g x for x units is this span, or nothing
+abbrev pub Offers : (ℤ → ℕ) → Option Span → Type 0
+Offers g None = (x : ℤ) → g x ≡ 0
+Offers g (Some s) = Ranged s × ((x : ℤ) → g x ≡ cell_in s x)
 
 -- the worth that a table gives
-unfoldable pub worth_of : Option ℤ → Worth
-worth_of none = Worth.Nothing
-worth_of (some v) = Worth.Price (price v)
+abbrev pub worth_of : Maybe.Option ℤ → Option Price
+worth_of Maybe.none = None
+worth_of (Maybe.some v) = Some (price v)
 
 -- what the message at p makes with the row at cell x
 unfoldable pub meets : List ℕ → List ℕ → ℕ → ℕ → ℕ
