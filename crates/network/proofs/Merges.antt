@@ -11,13 +11,12 @@ use lib.Dec.{eqb}
 use lib.Bits.{bit_or}
 use lib.ListN.{length, get_or}
 use borrow.Author.Count.{below_more}
-use borrow.Author.Tests.{eqb-true, eq-eqb}
-use Rattle.numbers.proofs.Tests.{true_false, or_true, or_left, or_right}
-use Rattle.problem.specs.Problem.{Link, joins, neighbours}
+use Rattle.numbers.proofs.Tests.{true_false, or_left, or_right}
+use Rattle.problem.specs.Problem.{Link, neighbours}
 use Rattle.problem.proofs.Tree.{Joined, Open, Within}
 use Rattle.problem.proofs.Tree.Joined.{same, step}
-use Rattle.problem.proofs.Links.{Ends, joins_ends}
-use Rattle.problem.proofs.Labels.{lab, Lab, lab_cases, lab_a, lab_b, lab_more, lab_joined, open_few}
+use Rattle.problem.proofs.Links.{joins_ends}
+use Rattle.problem.proofs.Labels.{lab, lab_cases, lab_a, lab_b, lab_more, lab_joined, open_few}
 use Rattle.problem.proofs.Count.{same?}
 use Rattle.network.specs.inner.Sets.{holds}
 use Rattle.network.specs.inner.Parts.{touches, gather, Merged}
@@ -27,15 +26,7 @@ use Rattle.network.proofs.Bit.{holds_or, holds_one}
 
 neighbours_lab : (ls : List Link) (u v : ℕ) → neighbours ls u v ≡ true → lab ls u ≡ lab ls v
 neighbours_lab [] u v h = absurd (true_false (sym h))
-neighbours_lab (l ∷ ls) u v h = go (or_true (joins l u v) (neighbours ls u v) h) (neighbours_lab ls u v)
-  where
-    ends : Ends l u v → lab (l ∷ ls) u ≡ lab (l ∷ ls) v
-    ends (inl p) = ap (lab (l ∷ ls)) (sym p.0) ∙ lab_a l ls ∙ sym (lab_b l ls) ∙ ap (lab (l ∷ ls)) p.1
-    ends (inr p) = ap (lab (l ∷ ls)) (sym p.1) ∙ lab_b l ls ∙ sym (lab_a l ls) ∙ ap (lab (l ∷ ls)) p.0
-
-    go : (joins l u v ≡ true) ⊎ (neighbours ls u v ≡ true) → (neighbours ls u v ≡ true → lab ls u ≡ lab ls v) → lab (l ∷ ls) u ≡ lab (l ∷ ls) v
-    go (inl p) ih = ends (joins_ends l u v p)
-    go (inr p) ih = lab_more l ls u v (ih p)
+neighbours_lab (l ∷ ls) u v h = grind (arith, h, joins_ends l u v, lab_a l ls, lab_b l ls, lab_more l ls u v, neighbours_lab ls u v)
 
 joined_lab : {ls : List Link} {u v : ℕ} → Joined ls u v → lab ls u ≡ lab ls v
 joined_lab same = refl
@@ -72,62 +63,21 @@ keeps_none ms = record {
 
 -- ---- what is gathered
 
-module _ (ms : ℕ → ℕ) (a b : ℕ) where
-  -- v is an end, or in a set below k that holds an end
-  From : ℕ → ℕ → Type 0
-  From k v = ((v ≡ a) ⊎ (v ≡ b)) ⊎ ((e : ℕ) × (e < k) × (touches (ms e) a b ≡ true) × (holds (ms e) v ≡ true))
-
-  gather_in : (k v : ℕ) → holds (gather ms a b k) v ≡ true → From k v
-  unfolding gather From
-  gather_in zero v h = go (or_true (holds (2 ^ a) v) (holds (2 ^ b) v) (sym (holds_or (2 ^ a) (2 ^ b) v) ∙ h))
-    where
-      go : (holds (2 ^ a) v ≡ true) ⊎ (holds (2 ^ b) v ≡ true) → From 0 v
-      go (inl p) = inl (inl (eqb-true v a (sym (holds_one a v) ∙ p)))
-      go (inr p) = inl (inr (eqb-true v b (sym (holds_one b v) ∙ p)))
-  gather_in (suc k) v h = go (touches (ms k) a b) refl h (gather_in k v)
-    where
-      up : From k v → From (suc k) v
-      up (inl p) = inl p
-      up (inr p) = inr (p.0, omega (arith, p.1), p.2, p.3)
-
-      split : touches (ms k) a b ≡ true → (holds (gather ms a b k) v ≡ true) ⊎ (holds (ms k) v ≡ true) → (holds (gather ms a b k) v ≡ true → From k v) → From (suc k) v
-      split t (inl p) ih = up (ih p)
-      split t (inr p) ih = inr (k, le_refl (suc k), t, p)
-
-      go : (t : Bool) → touches (ms k) a b ≡ t → holds (cond t (bit_or (gather ms a b k) (ms k)) (gather ms a b k)) v ≡ true → (holds (gather ms a b k) v ≡ true → From k v) → From (suc k) v
-      go true e h ih = split e (or_true (holds (gather ms a b k) v) (holds (ms k) v) (sym (holds_or (gather ms a b k) (ms k) v) ∙ h)) ih
-      go false e h ih = up (ih h)
-
-  gather_grows : (k v : ℕ) → holds (gather ms a b k) v ≡ true → holds (gather ms a b (suc k)) v ≡ true
-  unfolding gather
-  gather_grows k v h = go (touches (ms k) a b)
-    where
-      go : (t : Bool) → holds (cond t (bit_or (gather ms a b k) (ms k)) (gather ms a b k)) v ≡ true
-      go true = holds_or (gather ms a b k) (ms k) v ∙ or_left (holds (gather ms a b k) v) (holds (ms k) v) h
-      go false = h
-
+module _ (ms : ℕ → ℕ) (a b v : ℕ) where
   gather_a : (k : ℕ) → holds (gather ms a b k) a ≡ true
   unfolding gather
-  gather_a zero = holds_or (2 ^ a) (2 ^ b) a ∙ or_left (holds (2 ^ a) a) (holds (2 ^ b) a) (holds_one a a ∙ eq-eqb a a refl)
-  gather_a (suc k) = gather_grows k a (gather_a k)
+  gather_a zero = grind (arith, holds_or (2 ^ a) (2 ^ b) a, holds_one a a)
+  gather_a (suc k) = grind (arith, gather_a k, holds_or (gather ms a b k) (ms k) a)
 
   gather_b : (k : ℕ) → holds (gather ms a b k) b ≡ true
   unfolding gather
-  gather_b zero = holds_or (2 ^ a) (2 ^ b) b ∙ or_right (holds (2 ^ a) b) (holds (2 ^ b) b) (holds_one b b ∙ eq-eqb b b refl)
-  gather_b (suc k) = gather_grows k b (gather_b k)
+  gather_b zero = grind (arith, holds_or (2 ^ a) (2 ^ b) b, holds_one b b)
+  gather_b (suc k) = grind (arith, gather_b k, holds_or (gather ms a b k) (ms k) b)
 
-  gather_of : (k e v : ℕ) → e < k → touches (ms e) a b ≡ true → holds (ms e) v ≡ true → holds (gather ms a b k) v ≡ true
+  gather_of : (k e : ℕ) → e < k → touches (ms e) a b ≡ true → holds (ms e) v ≡ true → holds (gather ms a b k) v ≡ true
   unfolding gather
-  gather_of zero e v l t h = absurd (not-suc-le-zero l)
-  gather_of (suc k) e v l t h = go (same? e k) (λ l. gather_of k e v l t h)
-    where
-      go : ((e ≡ k) × (eqb e k ≡ true)) ⊎ ((e ≡ k → ⊥) × (eqb e k ≡ false)) → (e < k → holds (gather ms a b k) v ≡ true) → holds (gather ms a b (suc k)) v ≡ true
-      go (inl q) ih =
-          let t' : touches (ms k) a b ≡ true = ap (λ (x : ℕ). touches (ms x) a b) (sym q.0) ∙ t in
-          let h' : holds (ms k) v ≡ true = ap (λ (x : ℕ). holds (ms x) v) (sym q.0) ∙ h in
-          ap (λ (x : Bool). holds (cond x (bit_or (gather ms a b k) (ms k)) (gather ms a b k)) v) t'
-          ∙ holds_or (gather ms a b k) (ms k) v ∙ or_right (holds (gather ms a b k) v) (holds (ms k) v) h'
-      go (inr q) ih = gather_grows k v (ih (omega (arith, q.0)))
+  gather_of zero e l t h = absurd (not-suc-le-zero l)
+  gather_of (suc k) e l t h = grind (arith, t, h, gather_of k e, holds_or (gather ms a b k) (ms k) v)
 
 -- member v is in the part of x or of y
 abbrev Part : List Link → ℕ → ℕ → ℕ → Type 0
@@ -145,18 +95,10 @@ module _ (ls : List Link) (ms : ℕ → ℕ) (k : ℕ) (K : Keeps ls ms k) where
       true_false (sym (ap₂ ◌&&◌ q.2 (K.class q.0 q.1 a b q.2 (joined_lab j))) ∙ h q.0 q.1)
 
   module _ (a b v : ℕ) where
-    gather_parts : holds (gather ms a b k) v ≡ true → Part ls (suc a) (suc b) (suc v)
-    unfolding From
-    gather_parts h = go (gather_in ms a b k v h)
-      where
-        pass : (e : ℕ) → e < k → holds (ms e) v ≡ true → (holds (ms e) a ≡ true) ⊎ (holds (ms e) b ≡ true) → Part ls (suc a) (suc b) (suc v)
-        pass e l h (inl q) = inl (K.joins e l v a h q)
-        pass e l h (inr q) = inr (K.joins e l v b h q)
-
-        go : From ms a b k v → Part ls (suc a) (suc b) (suc v)
-        go (inl (inl e)) = inl (ap (λ (x : ℕ). lab ls (suc x)) e)
-        go (inl (inr e)) = inr (ap (λ (x : ℕ). lab ls (suc x)) e)
-        go (inr p) = pass p.0 p.1 p.3 (or_true (holds (ms p.0) a) (holds (ms p.0) b) p.2)
+    gather_parts : (j : ℕ) → j ≤ k → holds (gather ms a b j) v ≡ true → Part ls (suc a) (suc b) (suc v)
+    unfolding gather
+    gather_parts zero l h = grind (arith, h, holds_or (2 ^ a) (2 ^ b) v, holds_one a v, holds_one b v)
+    gather_parts (suc j) l h = grind (arith, h, gather_parts j, holds_or (gather ms a b j) (ms j) v, K.joins j (omega arith) v a, K.joins j (omega arith) v b)
 
     parts_gather : Part ls (suc a) (suc b) (suc v) → holds (gather ms a b k) v ≡ true
     parts_gather p = go p
@@ -166,11 +108,11 @@ module _ (ls : List Link) (ms : ℕ → ℕ) (k : ℕ) (K : Keeps ls ms k) where
         with_end x h t e (inl q) = subst (λ (y : ℕ). holds (gather ms a b k) y ≡ true) (sym q.0) h
         with_end x h t e (inr q) =
             let c = K.cover v x q.0 e in
-            gather_of ms a b k c.0 v c.1 (t c.0 (K.class c.0 c.1 v x c.2 e)) c.2
+            gather_of ms a b v k c.0 c.1 (t c.0 (K.class c.0 c.1 v x c.2 e)) c.2
 
         go : Part ls (suc a) (suc b) (suc v) → holds (gather ms a b k) v ≡ true
-        go (inl e) = with_end a (gather_a ms a b k) (λ i. or_left (holds (ms i) a) (holds (ms i) b)) e (same? v a)
-        go (inr e) = with_end b (gather_b ms a b k) (λ i. or_right (holds (ms i) a) (holds (ms i) b)) e (same? v b)
+        go (inl e) = with_end a (gather_a ms a b v k) (λ i. or_left (holds (ms i) a) (holds (ms i) b)) e (same? v a)
+        go (inr e) = with_end b (gather_b ms a b v k) (λ i. or_right (holds (ms i) a) (holds (ms i) b)) e (same? v b)
 
 -- ---- one link more
 
@@ -180,30 +122,14 @@ module _ (ls : List Link) (l : Link) where
   Near v = Part ls l.a l.b v
 
   near_lab : (v : ℕ) → Near v → lab (l ∷ ls) v ≡ lab ls l.a
-  near_lab v p = go (lab_cases l ls v) p
-    where
-      go : Lab l ls v → Near v → lab (l ∷ ls) v ≡ lab ls l.a
-      go (inl e) p = e.1
-      go (inr e) (inl p) = e.1 ∙ p
-      go (inr e) (inr p) = absurd (e.0 p)
+  near_lab v p = grind (arith, p, lab_cases l ls v)
 
   lab_near : (v : ℕ) → lab (l ∷ ls) v ≡ lab ls l.a → Near v
-  lab_near v q = go (lab_cases l ls v)
-    where
-      go : Lab l ls v → Near v
-      go (inl e) = inr e.0
-      go (inr e) = inl (sym e.1 ∙ q)
-
-  far_lab : (v : ℕ) → (Near v → ⊥) → lab (l ∷ ls) v ≡ lab ls v
-  far_lab v d = go (lab_cases l ls v)
-    where
-      go : Lab l ls v → lab (l ∷ ls) v ≡ lab ls v
-      go (inl e) = absurd (d (inr e.0))
-      go (inr e) = e.1
+  lab_near v q = grind (arith, q, lab_cases l ls v)
 
   -- u is far and has v's new label: it had v's old one
   far_same : (u v : ℕ) → (Near u → ⊥) → lab (l ∷ ls) u ≡ lab (l ∷ ls) v → lab ls u ≡ lab ls v
-  far_same u v d e = sym (far_lab u d) ∙ e ∙ far_lab v (λ p. d (lab_near u (e ∙ near_lab v p)))
+  far_same u v d e = grind (arith, d, e, lab_cases l ls u, lab_cases l ls v)
 
   near_or : (v : ℕ) → Near v ⊎ (Near v → ⊥)
   near_or v = go (same? (lab (l ∷ ls) v) (lab ls l.a))
@@ -218,7 +144,7 @@ module _ (ls : List Link) (l : Link) (a b : ℕ) (low : l.a ≡ suc a) (high : l
 
   g_near : (v : ℕ) → holds g v ≡ true → Near ls l (suc v)
   unfolding g
-  g_near v h = subst₂ (λ (x y : ℕ). Part ls x y (suc v)) (sym low) (sym high) (gather_parts ls ms k K a b v h)
+  g_near v h = subst₂ (λ (x y : ℕ). Part ls x y (suc v)) (sym low) (sym high) (gather_parts ls ms k K a b v k (le_refl k) h)
 
   near_g : (v : ℕ) → Near ls l (suc v) → holds g v ≡ true
   unfolding g
@@ -237,7 +163,7 @@ module _ (ls : List Link) (l : Link) (a b : ℕ) (low : l.a ≡ suc a) (high : l
       far j t u q (inr p) = true_false (sym (or_right (holds (ms e) a) (holds (ms e) b) (K.class e j u b q p)) ∙ t)
 
       pass : (e < k) → (t : Bool) → touches (ms e) a b ≡ t → ms' e ≡ cond t (gather ms a b k) (ms e) → Is e
-      pass j true t q = inl (q, λ u j h. gather_of ms a b k e u j t h)
+      pass j true t q = inl (q, λ u j h. gather_of ms a b u k e j t h)
       pass j false t q = inr (j, q, λ u h p. far j t u h (subst₂ (λ (x y : ℕ). Part ls x y (suc u)) low high p))
 
       go : ((e ≡ k) × (eqb e k ≡ true)) ⊎ ((e ≡ k → ⊥) × (eqb e k ≡ false)) → Is e
