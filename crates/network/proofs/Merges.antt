@@ -1,7 +1,8 @@
 -- The sets of the members of each link's part keep who is joined, from link to link. Assumes nothing.
-use mathlib.Core.Path.{◌≡◌, refl, sym, ap, ap₂, ◌∙◌, subst, subst₂}
-use mathlib.Core.Logic.{◌⊎◌, inl, inr}
-use mathlib.Core.Bool.{Bool, true, false, cond, ◌&&◌}
+use mathlib.Core.Path.{◌≡◌, refl, sym, ap, ap₂, ◌∙◌, subst}
+use mathlib.Core.Logic.{◌⊎◌, inl, inr, ⊎_elim}
+use Rattle.std.proofs.Math.Nat.{eq-or-lt_of_le}
+use mathlib.Core.Bool.{true, false, cond, ◌&&◌}
 use mathlib.Core.List.{List, [], ◌∷◌}
 use Prim.Native.Nat.{ℕ, zero, suc, ◌+◌, ◌^◌, ◌≤◌, ◌<◌}
 use native.Mathlib.Nat.{le_refl, not-suc-le-zero}
@@ -139,66 +140,51 @@ module _ (ls : List Link) (l : Link) where
       go (inr d) = inr (λ p. d.0 (near_lab v p))
 
 module _ (ls : List Link) (l : Link) (a b : ℕ) (low : l.a ≡ suc a) (high : l.b ≡ suc b) (ms ms' : ℕ → ℕ) (k : ℕ) (K : Keeps ls ms k) (M : Merged ms ms' k a b (gather ms a b k)) where
-  g : ℕ
-  g = gather ms a b k
+  -- what is gathered is what is near
+  g_near : (v : ℕ) → holds (gather ms a b k) v ≡ true → Near ls l (suc v)
+  g_near v h = grind (arith, low, high, gather_parts ls ms k K a b v k (le_refl k) h)
 
-  g_near : (v : ℕ) → holds g v ≡ true → Near ls l (suc v)
-  unfolding g
-  g_near v h = subst₂ (λ (x y : ℕ). Part ls x y (suc v)) (sym low) (sym high) (gather_parts ls ms k K a b v k (le_refl k) h)
+  near_g : (v : ℕ) → Near ls l (suc v) → holds (gather ms a b k) v ≡ true
+  near_g v h = parts_gather ls ms k K a b v (grind (arith, low, high, h))
 
-  near_g : (v : ℕ) → Near ls l (suc v) → holds g v ≡ true
-  unfolding g
-  near_g v h = parts_gather ls ms k K a b v (subst₂ (λ (x y : ℕ). Part ls x y (suc v)) low high h)
+  -- an old set that holds no end has nothing near
+  far : (e : ℕ) → e < k → touches (ms e) a b ≡ false → (v : ℕ) → holds (ms e) v ≡ true → Near ls l (suc v) → ⊥
+  far e i t v h n = grind (arith, low, high, t, h, n, K.class e i v a, K.class e i v b)
 
-  -- what the set e is now: all that is near; or as it was, with nothing near in it
-  Is : ℕ → Type 0
-  Is e = ((ms' e ≡ g) × ((u : ℕ) → e < k → holds (ms e) u ≡ true → holds g u ≡ true)) ⊎ ((e < k) × (ms' e ≡ ms e) × ((u : ℕ) → holds (ms e) u ≡ true → Near ls l (suc u) → ⊥))
+  module _ (e u v : ℕ) (h : holds (ms' e) u ≡ true) where
+    class_new : e ≡ k → lab (l ∷ ls) (suc u) ≡ lab (l ∷ ls) (suc v) → holds (ms' e) v ≡ true
+    class_new i q =
+        let was : ms' e ≡ gather ms a b k = ap ms' i ∙ M.new in
+        grind (arith, h, was, q, g_near u, near_g v, near_lab ls l (suc u), lab_near ls l (suc v))
 
-  is : (e : ℕ) → e < suc k → Is e
-  unfolding Is g
-  is e h = go (same? e k)
-    where
-      far : (e < k) → touches (ms e) a b ≡ false → (u : ℕ) → holds (ms e) u ≡ true → Part ls (suc a) (suc b) (suc u) → ⊥
-      far j t u q (inl p) = true_false (sym (or_left (holds (ms e) a) (holds (ms e) b) (K.class e j u a q p)) ∙ t)
-      far j t u q (inr p) = true_false (sym (or_right (holds (ms e) a) (holds (ms e) b) (K.class e j u b q p)) ∙ t)
+    class_old : e < k → lab (l ∷ ls) (suc u) ≡ lab (l ∷ ls) (suc v) → holds (ms' e) v ≡ true
+    class_old i q =
+        grind (arith, h, M.old e i, q, g_near u, near_g v, near_lab ls l (suc u), lab_near ls l (suc v), far_same ls l (suc u) (suc v), far e i, K.class e i u v)
 
-      pass : (e < k) → (t : Bool) → touches (ms e) a b ≡ t → ms' e ≡ cond t (gather ms a b k) (ms e) → Is e
-      pass j true t q = inl (q, λ u j h. gather_of ms a b u k e j t h)
-      pass j false t q = inr (j, q, λ u h p. far j t u h (subst₂ (λ (x y : ℕ). Part ls x y (suc u)) low high p))
+    joins_new : e ≡ k → holds (ms' e) v ≡ true → lab (l ∷ ls) (suc u) ≡ lab (l ∷ ls) (suc v)
+    joins_new i p =
+        let was : ms' e ≡ gather ms a b k = ap ms' i ∙ M.new in
+        grind (arith, h, p, was, g_near u, g_near v, near_lab ls l (suc u), near_lab ls l (suc v))
 
-      go : ((e ≡ k) × (eqb e k ≡ true)) ⊎ ((e ≡ k → ⊥) × (eqb e k ≡ false)) → Is e
-      go (inl q) = inl (ap ms' q.0 ∙ M.new, λ u j h. absurd (omega (arith, q.0)))
-      go (inr q) = let j : e < k = omega (arith, q.0) in pass j (touches (ms e) a b) refl (M.old e j)
+    joins_old : e < k → holds (ms' e) v ≡ true → lab (l ∷ ls) (suc u) ≡ lab (l ∷ ls) (suc v)
+    joins_old i p = grind (arith, h, p, M.old e i, g_near u, g_near v, near_lab ls l (suc u), near_lab ls l (suc v), K.joins e i u v, lab_more l ls (suc u) (suc v))
 
-  cast : {x y : ℕ} (v : ℕ) → x ≡ y → holds x v ≡ true → holds y v ≡ true
-  cast v e h = subst (λ (z : ℕ). holds z v ≡ true) e h
+  -- a member of an old set is in it still
+  stays : (e : ℕ) → e < k → (u : ℕ) → holds (ms e) u ≡ true → holds (ms' e) u ≡ true
+  stays e i u h = grind (arith, h, M.old e i, gather_of ms a b u k e i)
 
   pub keeps_more : Keeps (l ∷ ls) ms' (suc k)
-  unfolding Is g
   keeps_more = record {
-    class = λ e h u v q p. class' e u v q p (is e h);
-    joins = λ e h u v q p. joins' e u v q p (is e h);
-    cover = λ u v d p. cover' u v d p (near_or ls l (suc u));
+    class = λ e i u v h q. ⊎_elim (λ (o : e ≡ k). class_new e u v h o q) (λ (o : e < k). class_old e u v h o q) (eq-or-lt_of_le (omega arith));
+    joins = λ e i u v h q. ⊎_elim (λ (o : e ≡ k). joins_new e u v h o q) (λ (o : e < k). joins_old e u v h o q) (eq-or-lt_of_le (omega arith));
+    cover = λ u v d q. covered u v d q (near_or ls l (suc u));
   }
     where
-      class' : (e u v : ℕ) → holds (ms' e) u ≡ true → lab (l ∷ ls) (suc u) ≡ lab (l ∷ ls) (suc v) → Is e → holds (ms' e) v ≡ true
-      class' e u v q p (inl i) = cast v (sym i.0) (near_g v (lab_near ls l (suc v) (sym p ∙ near_lab ls l (suc u) (g_near u (cast u i.0 q)))))
-      class' e u v q p (inr i) = cast v (sym i.1) (K.class e i.0 u v (cast u i.1 q) (far_same ls l (suc u) (suc v) (i.2 u (cast u i.1 q)) p))
-
-      joins' : (e u v : ℕ) → holds (ms' e) u ≡ true → holds (ms' e) v ≡ true → Is e → lab (l ∷ ls) (suc u) ≡ lab (l ∷ ls) (suc v)
-      joins' e u v q p (inl i) = near_lab ls l (suc u) (g_near u (cast u i.0 q)) ∙ sym (near_lab ls l (suc v) (g_near v (cast v i.0 p)))
-      joins' e u v q p (inr i) = lab_more l ls (suc u) (suc v) (K.joins e i.0 u v (cast u i.1 q) (cast v i.1 p))
-
-      cover' : (u v : ℕ) → (u ≡ v → ⊥) → lab (l ∷ ls) (suc u) ≡ lab (l ∷ ls) (suc v) → Near ls l (suc u) ⊎ (Near ls l (suc u) → ⊥) → (e : ℕ) × (e < suc k) × (holds (ms' e) u ≡ true)
-      cover' u v d p (inl n) = (k, le_refl (suc k), cast u (sym M.new) (near_g u n))
-      cover' u v d p (inr n) = kept (K.cover u v d (far_same ls l (suc u) (suc v) n p))
-        where
-          grown : (e : ℕ) → e < k → holds (ms e) u ≡ true → Is e → holds (ms' e) u ≡ true
-          grown e j h (inl i) = cast u (sym i.0) (i.1 u j h)
-          grown e j h (inr i) = cast u (sym i.1) h
-
-          kept : (e : ℕ) × (e < k) × (holds (ms e) u ≡ true) → (e : ℕ) × (e < suc k) × (holds (ms' e) u ≡ true)
-          kept c = (c.0, omega (arith, c.1), grown c.0 c.1 c.2 (is c.0 (omega (arith, c.1))))
+      covered : (u v : ℕ) → (u ≡ v → ⊥) → lab (l ∷ ls) (suc u) ≡ lab (l ∷ ls) (suc v) → Near ls l (suc u) ⊎ (Near ls l (suc u) → ⊥) → (e : ℕ) × (e < suc k) × (holds (ms' e) u ≡ true)
+      covered u v d q (inl n) = (k, le_refl (suc k), ap (λ (m : ℕ). holds m u) M.new ∙ near_g u n)
+      covered u v d q (inr n) =
+          let c = K.cover u v d (far_same ls l (suc u) (suc v) n q) in
+          (c.0, omega (arith, c.1), stays c.0 c.1 u c.2)
 
 -- ---- a search through the sets: m is what those below e gather of the ends, and none of them holds both
 pub record Searched (ms : List ℕ) (a b m e : ℕ) : Type 0 where
