@@ -24,7 +24,7 @@ use Rattle.problem.proofs.Spans.{point_limited, span_limited}
 use Rattle.records.specs.declared.Terms.{Terms}
 use Rattle.records.specs.declared.Record.{Record}
 use Rattle.records.specs.declared.Rule.{Rule}
-use Rattle.records.specs.Records.{Entry, byte, two, units_at, number_at, is_member, is_units, is_price, names, fields_fit, link_of, point_of, unfinished, unbegun, bad_span, span_of, link_at, point_at, begin_at, span_at, entry_at, entries_from, entries}
+use Rattle.records.specs.Records.{Entry, byte, two, units_at, number_at, is_member, is_units, is_price, fields_fit, link_of, point_of, unfinished, unbegun, bad_span, span_of, link_at, point_at, begin_at, span_at, entry_at, entries_from, entries}
 use Rattle.records.specs.Records.Entry.{link, offer, begins, fault}
 use Rattle.records.specs.Refusals.{Refusal, refusal, ◌otherwise◌, place_if, file_limit, too_long, faulty, unsound}
 use Rattle.records.proofs.Rules.{rule_of_number}
@@ -123,12 +123,6 @@ kind_6 f i e o h = begin_other f i o (sym is ∙ h)
     is : entry_at f i ≡ begin_at f i
     is = rw e refl
 
--- a kind 7 is not after its kind 6 by the record before it
-pub unbegun_later : (f : List ℕ) (i : ℕ) → (i ≡ 0 → ⊥) → unbegun f i ≡ not (names f (i - 1) 6 (byte f i 1))
-unfolding unbegun
-unbegun_later f zero h = absurd (h refl)
-unbegun_later f (suc i) h = let at : i ≡ suc i - 1 = omega arith in rw (← at) refl
-
 -- ---- the numbers of a link and of an offer are in range, and a fault is one of four refusals
 pub record LinkFits (l : Link) : Type 0 where
   pub low : 1 ≤ l.a
@@ -165,17 +159,8 @@ pub record Known (k : ℕ) (e : Entry) : Type 0 where
 either : (k : ℕ) (t : Bool) (x y : Entry) → (t ≡ true → Known k x) → (t ≡ false → Known k y) → Known k (cond t x y)
 either k t x y f g = bool_cases t (λ b. Known k (cond b x y)) f g
 
-known_3 : (k : ℕ) → Known k (fault 3)
-known_3 k = record { fits = inl refl; member_is = tt }
-
-known_4 : (k : ℕ) → Known k (fault 4)
-known_4 k = record { fits = inr (inl refl); member_is = tt }
-
-known_13 : (k : ℕ) → Known k (fault 13)
-known_13 k = record { fits = inr (inr (inl refl)); member_is = tt }
-
-known_14 : (k : ℕ) → Known k (fault 14)
-known_14 k = record { fits = inr (inr (inr refl)); member_is = tt }
+known_fault : (k n : ℕ) → Fits (fault n) → Known k (fault n)
+known_fault k n h = record { fits = h; member_is = tt }
 
 link_known : (a b z c y x : ℕ) → Known a (link_of a b z c y x)
 unfolding link_of
@@ -187,7 +172,7 @@ link_known a b z c y x =
     let e2 = and_true (leb 1 a && ltb a b) (leb b 32) (and_true (leb 1 a && ltb a b && leb b 32) (eqb z 0) e4.0).0 in
     let e1 = and_true (leb 1 a) (ltb a b) e2.0 in
     record { fits = record { low = leb-true 1 a e1.0; below = ltb-true a b e1.1; high = leb-true b 32 e2.1; small = leb-true c 40 e4.1 }; member_is = tt })
-    (λ e. known_4 a)
+    (λ e. known_fault a 4 (inr (inl refl)))
 
 is_member_lem : (j : ℕ) → is_member j ≡ true → MemberFits j
 is_member_lem j e = let m = and_true (leb 1 j) (leb j 32) e in (leb-true 1 j m.0, leb-true j 32 m.1)
@@ -203,7 +188,7 @@ point_known j x p =
     let e2 = and_true (is_member j && is_units x) (is_price p) e in
     let e1 = and_true (is_member j) (is_units x) e2.0 in
     record { fits = record { member = is_member_lem j e1.0; worths = point_limited 1000000 x p (is_price_lem p e2.1) }; member_is = refl })
-    (λ e. known_4 j)
+    (λ e. known_fault j 4 (inr (inl refl)))
 
 -- a span that is not refused
 sound_span : (l u a b : ℤ) → bad_span l u a b ≡ false → (is_price ((a *ℤ l) +ℤ b) ≡ true) × (is_price ((a *ℤ u) +ℤ b) ≡ true)
@@ -215,7 +200,7 @@ sound_span l u a b e =
 span_known : (j : ℕ) (l u a b : ℤ) → MemberFits j → Known j (span_of j l u a b)
 unfolding span_of
 span_known j l u a b m =
-    either j (bad_span l u a b) (fault 14) (offer (record { member = j; terms = P.Terms.span l u a b })) (λ e. known_14 j)
+    either j (bad_span l u a b) (fault 14) (offer (record { member = j; terms = P.Terms.span l u a b })) (λ e. known_fault j 14 (inr (inr (inr refl))))
     (λ e.
     let p = sound_span l u a b e in
     record { fits = record { member = m; worths = span_limited 1000000 l u a b (is_price_lem _ p.0) (is_price_lem _ p.1) }; member_is = refl })
@@ -226,18 +211,18 @@ module _ (f : List ℕ) (i : ℕ) where
   begin_known =
       either (byte f i 1) (fields_fit f i) _ _
       (λ e.
-      either (byte f i 1) (unfinished f i) (fault 13) (begins (byte f i 1)) (λ d. known_13 (byte f i 1))
+      either (byte f i 1) (unfinished f i) (fault 13) (begins (byte f i 1)) (λ d. known_fault (byte f i 1) 13 (inr (inr (inl refl))))
       (λ d. record { fits = is_member_lem (byte f i 1) (and_true (is_member (byte f i 1)) (is_units (units_at f i)) e).0; member_is = tt }))
-      (λ e. known_4 (byte f i 1))
+      (λ e. known_fault (byte f i 1) 4 (inr (inl refl)))
 
   span_at_known : Known (byte f i 1) (span_at f i)
   unfolding span_at
   span_at_known =
       either (byte f i 1) (fields_fit f i) _ _
       (λ e.
-      either (byte f i 1) (unbegun f i) _ _ (λ d. known_13 (byte f i 1))
+      either (byte f i 1) (unbegun f i) _ _ (λ d. known_fault (byte f i 1) 13 (inr (inr (inl refl))))
       (λ d. span_known (byte f i 1) _ _ _ _ (is_member_lem (byte f i 1) (and_true (is_member (byte f i 1)) (is_units (units_at f i)) e).0)))
-      (λ e. known_4 (byte f i 1))
+      (λ e. known_fault (byte f i 1) 4 (inr (inl refl)))
 
   pub entry_known : Known (byte f i 1) (entry_at f i)
   unfolding entry_at link_at point_at
@@ -247,7 +232,7 @@ module _ (f : List ℕ) (i : ℕ) where
       either (byte f i 1) (eqb (byte f i 0) 2) _ _ (λ d. point_known (byte f i 1) (units_at f i) (number_at f i))
       (λ d.
       either (byte f i 1) (eqb (byte f i 0) 6) _ _ (λ c. begin_known)
-      (λ c. either (byte f i 1) (eqb (byte f i 0) 7) _ _ (λ b. span_at_known) (λ b. known_3 (byte f i 1)))))
+      (λ c. either (byte f i 1) (eqb (byte f i 0) 7) _ _ (λ b. span_at_known) (λ b. known_fault (byte f i 1) 3 (inl refl)))))
 
 pub entry_fits : (f : List ℕ) (i : ℕ) → Fits (entry_at f i)
 entry_fits f i = (entry_known f i).fits
@@ -306,11 +291,11 @@ module _ (f : List ℕ) (i n : ℕ) where
 pub both_none : (g h : Option Refusal) → g otherwise h ≡ none → (g ≡ none) × (h ≡ none)
 unfolding ◌otherwise◌
 both_none none h e = (refl, e)
-both_none (some x) h e = let z : ◌≡◌ {A = ℕ} 0 1 = cc (e) in absurd (omega arith)
+both_none (some x) h e = cc (e)
 
 test_fails : (k : ℕ) (t : Bool) (p : ℕ) → refusal k (place_if t p) ≡ none → t ≡ false
 unfolding refusal place_if
-test_fails k true p e = let z : ◌≡◌ {A = ℕ} 0 1 = cc (e) in absurd (omega arith)
+test_fails k true p e = cc (e)
 test_fails k false p e = refl
 
 pub short_file : (f : List ℕ) → refusal 1 (too_long f) ≡ none → length f ≤ file_limit

@@ -1,8 +1,8 @@
-// A file is records of 8 bytes. Each record is read as exactly one of a link, an offer, the first record of a span's offer or
-// a fault, in place, and one pass over the file gives refusals 1 to 4, 13 and 14. Nothing is asked of a file's bytes.
+// A file is records of 8 bytes. Each record is read as exactly one of a link, an offer and the first record of a span's offer,
+// or is refused under a rule, and one pass over the file gives refusals 1 to 4, 13 and 14. Nothing is asked of a file's bytes.
 #![tactic(auto)]
 
-ghost use Rattle.std.specs.Prelude.{◌≡◌, ◌&&◌, ◌+◌, ◌*◌, ◌≤◌, length};
+ghost use Rattle.std.specs.Prelude.{◌≡◌, ◌&&◌, ◌+◌, ◌*◌, ◌≤◌, leb, ltb, length};
 ghost use Rattle.records.specs.Records.{byte, four, units_at, number_at, names, is_price, link_at, point_at, span_of, entry_at};
 ghost use Rattle.records.specs.Refusals.{unsound};
 ghost use Rattle.records.specs.inner.Cases.{number_of, kind_number, KindOf, bytes_at, fields_of, reading_of, verdict_of};
@@ -33,8 +33,9 @@ pub enum Terms {
     Span(Units, Units, Slope, Price),
 }
 
-// A record that is no fault, as it is read: a link's ends and capacity, an offer's member and terms, or the member whose span
-// the next record offers. A span is read at the later of its two records; its lower end's range is the earlier one's to check.
+// A record as it is read, if it is not refused: a link's ends and capacity, an offer's member and terms, or the member whose
+// span the next record offers. A span is read at the later of its two records; its lower end's range is for the earlier one
+// to check.
 #[derive(Clone, Copy)]
 pub enum Record {
     Link(Member, Member, Units),
@@ -133,13 +134,14 @@ fn bytes_at(file: &[u8], i: usize) -> [u8; 8]
     file[at..at + 8].try_into().unwrap()
 }
 
-// An offer's units and its number, from its record's bytes.
+// An offer's units, from its record's bytes.
 fn units(bytes: [u8; 8]) -> Units
     ensures { result.0 ≡ units_at bytes 0 }
 {
     Units(i16::from_le_bytes([bytes[2], bytes[3]]))
 }
 
+// The 32 bits of its number: a point's price, or one of a span's base and slope.
 fn number(bytes: [u8; 8]) -> u32
     ensures { result ≡ four bytes 0 4 }
 {
@@ -175,6 +177,13 @@ fn is_price(amount: Amount) -> bool
     amount.within(LOWEST_PRICE, HIGHEST_PRICE)
 }
 
+// A link's numbers are in range, its lower member first.
+fn is_link(a: u8, b: u8, capacity: u16) -> bool
+    ensures { result ≡ (leb 1 a && ltb a b && leb b 32 && leb capacity 40) }
+{
+    1 <= a && a < b && b <= MEMBERS && capacity <= CAPACITY
+}
+
 // A record of kind 1.
 #[tactic(auto, unfolding(crate::specs::Records::link_at, crate::specs::Records::link_of, crate::specs::inner::Cases::reading_of, crate::specs::inner::Cases::rule_of))]
 fn link(bytes: [u8; 8]) -> Result<Record, Rule>
@@ -184,7 +193,7 @@ fn link(bytes: [u8; 8]) -> Result<Record, Rule>
         return Err(Rule::OutOfRange);
     };
     let capacity = u16::from_le_bytes([low, high]);
-    if 1 <= a && a < b && b <= MEMBERS && capacity <= CAPACITY {
+    if is_link(a, b, capacity) {
         Ok(Record::Link(Member(a), Member(b), Units::of(capacity)))
     } else {
         Err(Rule::OutOfRange)
@@ -211,10 +220,8 @@ fn span(first: [u8; 8], last: [u8; 8]) -> Result<Record, Rule>
     ensures { result ≡ reading_of (span_of (byte last 0 1) (units_at first 0) (units_at last 0) (number_at last 0) (number_at first 0)) }
 {
     let (low, high) = (units(first), units(last));
-    let (slope, base) = (
-        Slope::from_bits(number(last)),
-        Price::from_bits(number(first)),
-    );
+    let slope = Slope::from_bits(number(last));
+    let base = Price::from_bits(number(first));
     if low <= high && is_price(slope.amount(low, base)) && is_price(slope.amount(high, base)) {
         Ok(Record::Offer(Member(last[1]), Terms::Span(low, high, slope, base)))
     } else {
