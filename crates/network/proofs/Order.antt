@@ -1,5 +1,5 @@
--- The walk over masks: what the code computes, and that it is the walk.
-use mathlib.Core.Path.{◌≡◌, refl, sym, ap, ◌∙◌, subst}
+-- The walk over sets: what the code computes, and that it is the walk. Assumes nothing.
+use mathlib.Core.Path.{◌≡◌, refl, sym, ap, ◌∙◌}
 use mathlib.Core.Bool.{true, false, not}
 use mathlib.Core.List.{List, ◌∷◌}
 use mathlib.Core.Option.{Option, none, some}
@@ -106,38 +106,30 @@ holds_step t steps count mask w H len lo l = record {
 abbrev pub Walking : List Members → List Step → ℕ → ℕ → Type 0
 Walking adj steps count mask = (ls : List Link) (n : ℕ) → Adj ls n adj → (j : ℕ) → count ≡ suc j → Holds (hops ls (suc n) j) steps count mask
 
-first_only : (g : ℕ → ℕ) (x : ℕ) → g 0 ≡ x → (i : ℕ) → i ≤ 0 → g i ≡ x
-first_only g x h i le = ap g (omega arith) ∙ h
-
-start : (ls : List Link) (n : ℕ) (steps : List Step) → walked_at steps 0 ≡ 1 → walked_from steps 0 ≡ 0 → Holds (hops ls n 0) steps 1 1
-unfolding hops
-start ls n steps p q = record { counted = refl; members = first_only (walked_at steps) 1 p; froms = first_only (walked_from steps) 0 q; seen = λ v. grind (arith, holds_one 0 v); fits = lit< tt }
-
 pub walking_none : (adj : List Members) (steps : List Step) → walked_at steps 0 ≡ 1 → walked_from steps 0 ≡ 0 → Walking adj steps 1 1
-walking_none adj steps p q ls n A j e = subst (λ (k : ℕ). Holds (hops ls (suc n) k) steps 1 1) (omega arith) (start ls (suc n) steps p q)
+unfolding hops
+walking_none adj steps p q ls n A zero e =
+    record { counted = refl; members = λ i h. grind (arith, p); froms = λ i h. grind (arith, q); seen = λ v. grind (arith, holds_one 0 v); fits = lit< tt }
+walking_none adj steps p q ls n A (suc j) e = absurd (omega (arith, e))
 
-mem_in : (ls : List Link) (n : ℕ) (adj : List Members) → Adj ls n adj → (j : ℕ) (steps : List Step) (count mask : ℕ) → Holds (hops ls (suc n) j) steps count mask
-    → (i : ℕ) → i ≤ length (hops ls (suc n) j) → (1 ≤ walked_at steps i) × (walked_at steps i ≤ n)
-mem_in ls n adj A j steps count mask H i l =
-    let a = at_in ls n A.some_member A.within (hops ls (suc n) j) (walk_walked ls (suc n) j) i in
-    (omega (arith, H.members i l, a.0), omega (arith, H.members i l, a.1))
+-- the code's next step is the walk's
+next_is : (ls : List Link) (n : ℕ) (adj : List Members) → Adj ls n adj → (j : ℕ) (steps : List Step) (count mask : ℕ) → Holds (hops ls (suc n) j) steps count mask
+    → on_mask adj steps mask count ≡ on_from ls (suc n) (hops ls (suc n) j) (suc (length (hops ls (suc n) j)))
+next_is ls n adj A j steps count mask H =
+    on_mask_lem ls n adj A (hops ls (suc n) j) steps count mask H count (le_refl count) known ∙ ap (on_from ls (suc n) (hops ls (suc n) j)) H.counted
+  where
+    known : (i : ℕ) → i ≤ length (hops ls (suc n) j) → (1 ≤ walked_at steps i) × (walked_at steps i ≤ n)
+    known i l = let a = at_in ls n A.some_member A.within (hops ls (suc n) j) (walk_walked ls (suc n) j) i in rw (H.members i l) a
 
 pub walking_more : (adj : List Members) (steps : List Step) (count mask : ℕ) (w : Step) → count < length steps → on_mask adj steps mask count ≡ some (hop w)
     → Walking adj steps count mask → Walking adj (set steps count w) (count + 1) (bit_or mask (2 ^ (w.member.0 - 1)))
 walking_more adj steps count mask w len e W ls n A zero q = absurd (omega (arith, (on_lt adj steps mask count (hop w) e).2))
 walking_more adj steps count mask w len e W ls n A (suc j) q =
     let H = W ls n A j (omega arith) in
-    let t = hops ls (suc n) j in
     let b = on_lt adj steps mask count (hop w) e in
-    subst (λ (t : List Hop). Holds t (set steps count w) (count + 1) (bit_or mask (2 ^ (w.member.0 - 1))))
-    (sym (walk_more ls (suc n) j (hop w) (sym (ap (on_from ls (suc n) t) H.counted)
-    ∙ sym (on_mask_lem ls n adj A t steps count mask H count (le_refl count) (mem_in ls n adj A j steps count mask H)) ∙ e)))
-    (holds_step t steps count mask w H len b.0 b.1)
+    rw (walk_more ls (suc n) j (hop w) (sym (next_is ls n adj A j steps count mask H) ∙ e)) (holds_step (hops ls (suc n) j) steps count mask w H len b.0 b.1)
 
 -- ---- the end: no next stop, or no room for one
-
-walk_end : (ls : List Link) (n j : ℕ) → j ≤ n → Finished ls n (hops ls n j) → hops ls n n ≡ hops ls n j
-walk_end ls n j h f = ap (hops ls n) (omega arith) ∙ walk_stays ls n j (n - j) f
 
 -- a walk of n positions is finished
 full_finished : (ls : List Link) (n : ℕ) → 1 ≤ n → Within n ls → (t : List Hop) → Walked ls (suc n) t → suc (length t) ≡ n → Finished ls (suc n) t
@@ -149,24 +141,26 @@ full_finished ls n p w t h e = go (on_from ls (suc n) t (suc (length t))) refl
         let f = on_fresh ls (suc n) t (suc (length t)) (le_refl _) s q in
         absurd (omega (arith, walk_room ls n p w (s ∷ t) (f.0, f.1, f.2, f.3, h)))
 
+-- a finished walk is the whole walk
+whole : (ls : List Link) (n : ℕ) (adj : List Members) → Adj ls n adj → (j : ℕ) (steps : List Step) (count mask : ℕ) → Holds (hops ls (suc n) j) steps count mask → count ≡ suc j
+    → Finished ls (suc n) (hops ls (suc n) j) → Holds (hops ls (suc n) (suc n)) steps count mask
+whole ls n adj A j steps count mask H e f =
+    let room = walk_room ls n A.some_member A.within (hops ls (suc n) j) (walk_walked ls (suc n) j) in
+    let more : suc n ≡ suc n - j + j = omega (arith, room, H.counted) in
+    rw (ap (hops ls (suc n)) more ∙ walk_stays ls (suc n) j (suc n - j) f) H
+
 pub walking_done : (adj : List Members) (steps : List Step) (count mask : ℕ) → 0 < count → on_mask adj steps mask count ≡ none → Walking adj steps count mask → WalkOf adj steps count mask
-walking_done adj steps zero mask p e W ls n A = absurd (omega arith)
-walking_done adj steps (suc j) mask p e W ls n A =
-    let H = W ls n A j refl in
-    let t = hops ls (suc n) j in
-    let ok = walk_walked ls (suc n) j in
-    let len : length t ≡ j = omega (arith, H.counted) in
-    subst (λ (t : List Hop). Holds t steps (suc j) mask)
-    (sym (walk_end ls (suc n) j (omega (arith, walk_room ls n A.some_member A.within t ok))
-    (sym (ap (on_from ls (suc n) t) H.counted)
-    ∙ sym (on_mask_lem ls n adj A t steps (suc j) mask H (suc j) (le_refl (suc j)) (mem_in ls n adj A j steps (suc j) mask H)) ∙ e)))
-    H
+walking_done adj steps count mask p e W ls n A =
+    let j : ℕ = count - 1 in
+    let c : count ≡ suc j = omega arith in
+    let H : Holds (hops ls (suc n) j) steps count mask = W ls n A j c in
+    whole ls n adj A j steps count mask H c (sym (next_is ls n adj A j steps count mask H) ∙ e)
 
 pub walking_full : (adj : List Members) (steps : List Step) (count mask : ℕ) → 32 ≤ count → Walking adj steps count mask → WalkOf adj steps count mask
-walking_full adj steps zero mask p W ls n A = absurd (omega arith)
-walking_full adj steps (suc j) mask p W ls n A =
-    let H = W ls n A j refl in
+walking_full adj steps count mask p W ls n A =
+    let j : ℕ = count - 1 in
+    let c : count ≡ suc j = omega arith in
+    let H : Holds (hops ls (suc n) j) steps count mask = W ls n A j c in
     let ok = walk_walked ls (suc n) j in
-    let c = walk_room ls n A.some_member A.within (hops ls (suc n) j) ok in
-    subst (λ (t : List Hop). Holds t steps (suc j) mask)
-    (sym (walk_end ls (suc n) j (omega (arith, H.counted, A.few)) (full_finished ls n A.some_member A.within (hops ls (suc n) j) ok (omega (arith, A.few, H.counted))))) H
+    let room = walk_room ls n A.some_member A.within (hops ls (suc n) j) ok in
+    whole ls n adj A j steps count mask H c (full_finished ls n A.some_member A.within (hops ls (suc n) j) ok (omega (arith, A.few, H.counted, room)))

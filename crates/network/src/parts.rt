@@ -35,7 +35,8 @@ pub fn gathered(m: Members, part: Members, link: Ends) -> Members
     if touched(part, link) { m.join(part) } else { m }
 }
 
-// Of the parts of count links those that hold an end of the link are made one, m, which is also the link's.
+// Of the parts of count links those that hold an end of the link are made one, m, which is also the link's. The whole array
+// is lent, and not the links' places alone, since it is promised that what stands past them stays (Merged).
 pub fn merged(parts: &mut [Members; 31], count: usize, link: Ends, m: Members)
     requires { count < 31 }
     ensures { Merged (set_in parts.old) (set_in parts.new) count (index link.a) (index link.b) m.0 }

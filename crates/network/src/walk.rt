@@ -24,7 +24,8 @@ pub struct Step {
     pub from: u8,
 }
 
-// A walk by its positions, and the members that it reached. What stands past the count is 0.
+// A walk by its positions, and the members that it reached. Past the count the steps are 0, as a feeder's positions are past
+// its members; so the count stands beside a whole array, and no slice.
 #[derive(Clone, Copy)]
 pub struct Walked {
     pub step: [Step; 32],
