@@ -1,18 +1,22 @@
--- An array of 32 places filled from the front. Assumes nothing.
-use mathlib.Core.Path.{◌≡◌, refl, sym, ap, ◌∙◌}
+-- Trades made one position after the other. Assumes nothing.
+use mathlib.Core.Path.{◌≡◌, refl, sym, ap, subst}
 use mathlib.Core.Bool.{Bool, true, false}
 use mathlib.Core.List.{List}
-use Prim.Native.Nat.{ℕ, ◌+◌, ◌≤◌, ◌<◌}
+use Prim.Native.Nat.{ℕ, ◌+◌, ◌<◌}
 use native.Mathlib.Omega.{arith}
 use lib.Dec.{eqb, ltb}
-use lib.IntN.{ℤ, pos}
-use lib.ListN.{length, get_or, set, replicate, length-set, length-replicate, get_or-replicate, get_or-eq_default}
+use lib.IntN.{pos, ◌-ℤ◌}
+use lib.ListN.{length, get_or, set, replicate, length-replicate, get_or-replicate, get_or-eq_default}
 use lib.Seq.{get_or-set_same, get_or-set_other}
 use borrow.Author.Tests.{eqb-true, eqb-false, ltb-true, ltb-false}
-use Rattle.numbers.specs.declared.Units.{Units}
-use Rattle.numbers.specs.inner.Held.{units, units_in}
+use Rattle.numbers.specs.inner.Held.{units}
+use Rattle.network.specs.declared.Feeder.{Feeder}
+use Rattle.network.specs.inner.Feeders.{away_at}
+use Rattle.engine.specs.declared.Trade.{Trade}
+use Rattle.engine.specs.declared.downward.Choice.{Choice}
+use Rattle.engine.specs.inner.Words.{top_of, choice_in, Flows}
 
--- ---- a new array, of any type: past its end stands the same
+-- a new array, of any type: past its end stands the same
 pub blank : {A : Type 0} (d : A) (j : ℕ) → get_or (replicate 32 d) j d ≡ d
 blank d j = go (ltb j 32) refl
   where
@@ -20,33 +24,33 @@ blank d j = go (ltb j 32) refl
     go true t = get_or-replicate 32 j d d (ltb-true j 32 t)
     go false t = get_or-eq_default (replicate 32 d) d {n = j} (omega (arith, ltb-false j 32 t, length-replicate 32 d))
 
--- ---- g below i
-pub record Filled (g : ℕ → ℤ) (out : List Units) (i : ℕ) : Type 0 where
-  pub size : length out ≡ 32
-  pub done : (j : ℕ) → j < i → units_in out j ≡ g j
-  pub rest : (j : ℕ) → i ≤ j → units_in out j ≡ pos 0
+abbrev none : Trade
+none = record { net = units (pos 0); sent = units (pos 0) }
 
-pub filled_none : {g : ℕ → ℤ} → Filled g (replicate 32 (units (pos 0))) 0
-filled_none =
-    record {
-      size = refl;
-      done = λ j l. absurd (omega arith);
-      rest = λ j l. ap (λ (u : Units). u.0) (blank (units (pos 0)) j);
-    }
+module _ (f : Feeder) (chosen : List Choice) where
+  pub flows_none : Flows f chosen (replicate 32 none) 0
+  flows_none =
+      record {
+        nets = λ j l. absurd (omega arith);
+        sends = λ j l. absurd (omega arith);
+        past = λ j l. (ap (λ (t : Trade). t.net.0) (blank none j), ap (λ (t : Trade). t.sent.0) (blank none j));
+      }
 
-pub filled_more : {g : ℕ → ℤ} {out : List Units} {i : ℕ} (u : Units) → Filled g out i → i < 32 → u.0 ≡ g i → Filled g (set out i u) (i + 1)
-filled_more {g} {out} {i} u f l e =
-    record {
-      size = length-set out i u ∙ f.size;
-      done = λ j d. go j d (eqb j i) refl;
-      rest = λ j d. other j (omega arith) ∙ f.rest j (omega arith);
-    }
-  where
-    other : (j : ℕ) → (j ≡ i → ⊥) → units_in (set out i u) j ≡ units_in out j
-    other j o = ap (λ (u : Units). u.0) (get_or-set_other out i j u (units (pos 0)) o)
-
-    go : (j : ℕ) → j < i + 1 → (b : Bool) → eqb j i ≡ b → units_in (set out i u) j ≡ g j
-    go j d true t =
-        let q = eqb-true j i t in
-        ap (λ (x : ℕ). units_in (set out i u) x) q ∙ ap (λ (u : Units). u.0) (get_or-set_same out i u (units (pos 0)) (omega (arith, f.size))) ∙ e ∙ ap g (sym q)
-    go j d false t = let o = eqb-false j i t in other j o ∙ f.done j (omega arith)
+  pub flows_more : (trades : List Trade) (i : ℕ) (t : Trade) → length trades ≡ 32 → i < 32 → Flows f chosen trades i
+      → t.net.0 ≡ pos (top_of f i) -ℤ pos (choice_in chosen i).index → t.sent.0 ≡ pos (choice_in chosen i).taken -ℤ pos (away_at f i)
+      → Flows f chosen (set trades i t) (i + 1)
+  flows_more trades i t size l w n s =
+      record {
+        nets = λ j d. below (λ (j : ℕ) (u : Trade). u.net.0 ≡ pos (top_of f j) -ℤ pos (choice_in chosen j).index) n w.nets j d (eqb j i) refl;
+        sends = λ j d. below (λ (j : ℕ) (u : Trade). u.sent.0 ≡ pos (choice_in chosen j).taken -ℤ pos (away_at f j)) s w.sends j d (eqb j i) refl;
+        past = λ j d. subst (λ (u : Trade). (u.net.0 ≡ pos 0) × (u.sent.0 ≡ pos 0)) (sym (get_or-set_other trades i j t none (λ e. omega arith))) (w.past j (omega arith));
+      }
+    where
+      below : (P : ℕ → Trade → Type 0) → P i t → ((j : ℕ) → j < i → P j (get_or trades j none)) → (j : ℕ) → j < i + 1 → (b : Bool) → eqb j i ≡ b
+          → P j (get_or (set trades i t) j none)
+      below P here old j d true q =
+          subst (λ (k : ℕ). P k (get_or (set trades i t) k none)) (sym (eqb-true j i q))
+          (subst (P i) (sym (get_or-set_same trades i t none (omega arith))) here)
+      below P here old j d false q =
+          let o = eqb-false j i q in
+          subst (P j) (sym (get_or-set_other trades i j t none o)) (old j (omega (arith, o)))

@@ -1,122 +1,103 @@
--- Parts of lists that were lent and came back, place by place: a message put in the store, and a message taken into a row.
--- Assumes nothing.
-use mathlib.Core.Path.{◌≡◌, sym, ap, ap₂, ◌∙◌}
-use Prim.Native.Nat.{ℕ, suc, ◌+◌, ◌-◌, ◌*◌, ◌<◌, ◌≤◌, ◌^◌}
+-- A message taken into a row, cell by cell: from the parts that were lent and came back. Assumes nothing.
+use mathlib.Core.Path.{◌≡◌, refl, sym, ap, ap₂, ◌∙◌, subst}
+use mathlib.Core.Bool.{Bool, true, false}
+use Prim.Native.Nat.{ℕ, ◌+◌, ◌-◌, ◌<◌, ◌≤◌}
 use native.Mathlib.Omega.{arith}
 use mathlib.Core.List.{List, ◌++◌}
-use lib.ListN.{length, get_or, take, drop, length-take, length-drop, get_or-append}
+use lib.ListN.{length, get_or, take, drop, length-take, length-drop, length-append, get_or-append}
+use lib.Dec.{ltb}
 use lib.Seq.{get_or-take, get_or-drop, get_or-append-add, length-take-le}
+use borrow.Author.Tests.{ltb-true, ltb-false}
 use Rattle.problem.proofs.Cell.{◌⊕◌}
 use Rattle.problem.proofs.Max.{max_to, argmax, max_to_ext, argmax_ext}
 use Rattle.rows.specs.inner.Rows.{meets, Combined}
 use Rattle.engine.specs.inner.Words.{slot_of, meet, Taken}
 
--- ---- the part of a list from a on, of n places
-abbrev part_of : List ℕ → ℕ → ℕ → List ℕ
-part_of xs a n = take n (drop a xs)
+-- what holds of the places below n holds of the part of n places
+pub fronts : (P : ℕ → Type 0) (xs : List ℕ) (n : ℕ) → ((x : ℕ) → x < n → P (get_or xs x 0)) → (x : ℕ) → x < length (take n xs) → P (get_or (take n xs) x 0)
+fronts P xs n h x l =
+    let d : x < n = omega (arith, length-take n xs) in
+    subst P (sym (get_or-take n xs x 0 d)) (h x d)
 
--- the list that ys came back to
-abbrev put_at : List ℕ → ℕ → ℕ → List ℕ → List ℕ
-put_at xs a n ys = take a xs ++ (ys ++ drop n (drop a xs))
+-- ---- choices written from place c on, n of them
+module _ (xs ys : List ℕ) (c n : ℕ) (fits : c + n ≤ length xs) (size : length ys ≡ n) where
+  len : length (take c xs) ≡ c
+  len = length-take-le c xs (omega arith)
 
-part_at : (xs : List ℕ) (a n x : ℕ) → x < n → get_or (part_of xs a n) x 0 ≡ get_or xs (a + x) 0
-part_at xs a n x h = get_or-take n (drop a xs) x 0 h ∙ get_or-drop a xs x 0
-
-pub length_part : (xs : List ℕ) (a n : ℕ) → a + n ≤ length xs → length (part_of xs a n) ≡ n
-length_part xs a n h = simp (length-take, length-drop) (omega arith)
-
-past : (xs ys : List ℕ) (n x : ℕ) → length xs ≡ n → n ≤ x → get_or (xs ++ ys) x 0 ≡ get_or ys (x - n) 0
-past xs ys n x e l =
-    let q : x ≡ length xs + (x - n) = omega arith in
-    ap (λ (t : ℕ). get_or (xs ++ ys) t 0) q ∙ get_or-append-add xs ys (x - n) 0
-
-module _ (xs ys : List ℕ) (a n : ℕ) (fits : a + n ≤ length xs) (size : length ys ≡ n) where
-  len : length (take a xs) ≡ a
-  len = length-take-le a xs (omega arith)
-
-  put_in : (x : ℕ) → x < n → get_or (put_at xs a n ys) (a + x) 0 ≡ get_or ys x 0
+  put_in : (x : ℕ) → x < n → get_or (take c xs ++ (ys ++ drop n (drop c xs))) (c + x) 0 ≡ get_or ys x 0
   put_in x l =
-      let q : a + x - a ≡ x = omega arith in
-      past (take a xs) (ys ++ drop n (drop a xs)) a (a + x) len (omega arith)
-      ∙ ap (λ (t : ℕ). get_or (ys ++ drop n (drop a xs)) t 0) q ∙ get_or-append ys (drop n (drop a xs)) 0 x (rw size l)
+      let q : c + x ≡ length (take c xs) + x = omega (arith, len) in
+      rw (q, get_or-append-add) (get_or-append ys (drop n (drop c xs)) 0 x (omega arith))
 
-  put_before : (j : ℕ) → j < a → get_or (put_at xs a n ys) j 0 ≡ get_or xs j 0
-  put_before j l = get_or-append (take a xs) (ys ++ drop n (drop a xs)) 0 j (rw len l) ∙ get_or-take a xs j 0 l
+  put_before : (j : ℕ) → j < c → get_or (take c xs ++ (ys ++ drop n (drop c xs))) j 0 ≡ get_or xs j 0
+  put_before j l = get_or-append (take c xs) (ys ++ drop n (drop c xs)) 0 j (omega (arith, len)) ∙ get_or-take c xs j 0 l
 
-  put_after : (j : ℕ) → a + n ≤ j → get_or (put_at xs a n ys) j 0 ≡ get_or xs j 0
-  put_after j l =
-      let q : a + (n + (j - a - n)) ≡ j = omega arith in
-      past (take a xs) (ys ++ drop n (drop a xs)) a j len (omega arith)
-      ∙ past ys (drop n (drop a xs)) n (j - a) size (omega arith)
-      ∙ get_or-drop n (drop a xs) (j - a - n) 0
-      ∙ get_or-drop a xs (n + (j - a - n)) 0
-      ∙ ap (λ (t : ℕ). get_or xs t 0) q
+  put_past : (j : ℕ) → c + n ≤ j → get_or (take c xs ++ (ys ++ drop n (drop c xs))) j 0 ≡ get_or xs j 0
+  put_past j l =
+      let q : j ≡ length (take c xs) + (length ys + (j - c - n)) = omega (arith, len) in
+      let r : c + (n + (j - c - n)) ≡ j = omega arith in
+      ap (λ (t : ℕ). get_or (take c xs ++ (ys ++ drop n (drop c xs))) t 0) q
+      ∙ get_or-append-add (take c xs) (ys ++ drop n (drop c xs)) (length ys + (j - c - n)) 0
+      ∙ get_or-append-add ys (drop n (drop c xs)) (j - c - n) 0
+      ∙ get_or-drop n (drop c xs) (j - c - n) 0
+      ∙ get_or-drop c xs (n + (j - c - n)) 0
+      ∙ ap (λ (t : ℕ). get_or xs t 0) r
 
--- ---- put_message, as the code has it: the part of the store lent to copy_cells, and what came back
-module _ (row msgs last : List ℕ) (v len : ℕ) (lm : v * 81 + len ≤ length msgs) (lr : len ≤ length row) where
-  pub put_law : length last ≡ length (part_of msgs (v * 81) (v * 81 + len - v * 81)) → ((x : ℕ) → x < length (take len row) → get_or last x 0 ≡ get_or (take len row) x 0)
-      → ((x : ℕ) → x < len → get_or (put_at msgs (v * 81) (v * 81 + len - v * 81) last) (v * 81 + x) 0 ≡ get_or row x 0)
-      × ((j : ℕ) → v * 81 + len ≤ j → get_or (put_at msgs (v * 81) (v * 81 + len - v * 81) last) j 0 ≡ get_or msgs j 0)
-  put_law ll e =
-      let n : ℕ = v * 81 + len - v * 81 in
-      let fit : v * 81 + n ≤ length msgs = omega arith in
-      let size : length last ≡ n = ll ∙ length_part msgs (v * 81) n fit in
-      let r : length (take len row) ≡ len = length-take-le len row lr in (
-        λ x d. put_in msgs last (v * 81) n fit size x (omega arith) ∙ e x (omega arith) ∙ get_or-take len row x 0 d,
-        λ j d. put_after msgs last (v * 81) n fit size j (omega arith),
-      )
+-- ---- take_in, as the code has it: the front of a message, and the choices from their place c on, lent to combine
+module _ (message row store : List ℕ) (i w c n : ℕ) (cs : c ≡ slot_of i) (lm : w < length message) (wl : w < length row) (ls : c + n ≡ length store)
+    (room : c + (length row - w) ≤ length store) where
+  msg : List ℕ
+  msg = take (w + 1) message
 
--- ---- take_in, as the code has it: the three parts lent to combine, and what came back
-module _ (msgs row store : List ℕ) (i w len c : ℕ) (cs : c ≡ slot_of i) (lm : i * 81 + w + 1 ≤ length msgs) (lr : len ≤ length row) (wl : w < len)
-    (ls : c + (len - w) ≤ length store) where
-  abbrev msg : List ℕ
-  msg = part_of msgs (i * 81) (i * 81 + w + 1 - i * 81)
+  long : length msg ≡ w + 1
+  unfolding msg
+  long = length-take-le (w + 1) message (omega arith)
 
-  count : i * 81 + w + 1 - i * 81 ≡ suc w
-  count = omega arith
-
-  room : c + (len - w) - c ≡ len - w
-  room = omega arith
-
-  -- how long the parts are
-  lengths : (length msg ≡ suc w) × (length (take len row) ≡ len) × (length (part_of store c (c + (len - w) - c)) ≡ len - w)
-  lengths = (rw count (length_part msgs (i * 81) (suc w) (omega arith)), length-take-le len row lr, rw room (length_part store c (len - w) ls))
-
-  msg_at : (p : ℕ) → p ≤ w → get_or msg p 0 ≡ get_or msgs (i * 81 + p) 0
-  msg_at p l = part_at msgs (i * 81) (i * 81 + w + 1 - i * 81) p (omega arith)
-
-  pub combine_asks : w ≤ 80 → ((p : ℕ) → p ≤ w → get_or msgs (i * 81 + p) 0 < 2 ^ 31) → ((x : ℕ) → x < len → get_or row x 0 < 2 ^ 31)
-      → ((1 ≤ length msg) × (length msg ≤ 81) × (length msg ≤ length (take len row)) × (length (take len row) + 1 ≤ length (part_of store c (c + (len - w) - c)) + length msg))
-      × (((y : ℕ) → y < length (take len row) → get_or (take len row) y 0 < 2 ^ 31) × ((p : ℕ) → p < length msg → get_or msg p 0 < 2 ^ 31))
-  combine_asks hw hm hr =
-      let l = lengths in (
-        (omega arith, omega arith, omega arith, omega arith),
-        (
-          (λ y d. rw (get_or-take len row y 0 (omega (arith, l.1))) (hr y (omega (arith, l.1)))),
-          (λ p d. rw (msg_at p (omega (arith, l.0))) (hm p (omega (arith, l.0)))),
-        ),
-      )
-
-  same : (x : ℕ) → x < len - w → (p : ℕ) → p ≤ w → meets (take len row) msg x p ≡ meet msgs row i w x p
-  unfolding meets
+  same : (x : ℕ) → x < length row - w → (p : ℕ) → p ≤ w → meets row msg x p ≡ meet message row w x p
+  unfolding meets msg
   same x d p lp =
-      let q : length msg - 1 - p ≡ w - p = omega (arith, lengths.0) in
-      ap₂ ◌⊕◌ (msg_at p lp) (ap (λ (t : ℕ). get_or (take len row) (x + t) 0) q ∙ get_or-take len row (x + (w - p)) 0 (omega arith))
+      let q : length msg - 1 - p ≡ w - p = omega (arith, long) in
+      ap₂ ◌⊕◌ (get_or-take (w + 1) message p 0 (omega arith)) (ap (λ (t : ℕ). get_or row (x + t) 0) q)
 
-  pub taken_law : (choice last lastc : List ℕ) → length last ≡ length (take len row) → length lastc ≡ length (part_of store c (c + (len - w) - c))
-      → Combined (take len row) msg choice last lastc → Taken msgs row store (last ++ drop len row) (put_at store c (c + (len - w) - c) lastc) i w len
-  taken_law choice last lastc ll lc e =
-      let n : ℕ = c + (len - w) - c in
-      let l = lengths in
-      let W : length msg - 1 ≡ w = omega (arith, l.0) in
-      let size : length lastc ≡ n = lc ∙ l.2 ∙ sym room in
-      let fit : c + n ≤ length store = omega (arith, room) in
+  pub taken_law : (last choice : List ℕ) → length choice ≡ length (take n (drop c store)) → Combined row (take (w + 1) message) (take n (drop c store)) last choice
+      → Taken message row store last (take c store ++ (choice ++ drop n (drop c store))) i w (length row)
+  unfolding msg
+  taken_law last choice lc e =
+      let W : length msg - 1 ≡ w = omega (arith, long) in
+      let size : length choice ≡ n = lc ∙ length-take-le n (drop c store) (omega (arith, length-drop c store)) in
       record {
-        cells = λ x d. get_or-append last (drop len row) 0 x (omega (arith, ll, l.1)) ∙ e.cells x (omega (arith, l.0, l.1))
-            ∙ ap (max_to (meets (take len row) msg x)) W ∙ max_to_ext _ _ w (same x d);
-        picks = λ x d. ap (λ (t : ℕ). get_or (put_at store c n lastc) (t + x) 0) (sym cs)
-            ∙ put_in store lastc c n fit size x (omega (arith, room)) ∙ e.picks x (omega (arith, l.0, l.1))
-            ∙ ap (argmax (meets (take len row) msg x)) W ∙ argmax_ext _ _ w (same x d);
-        before = λ j d. put_before store lastc c n fit size j (omega arith);
-        after = λ j d. put_after store lastc c n fit size j (omega (arith, room));
+        cells = λ x d. e.cells x (omega (arith, long)) ∙ ap (max_to (meets row msg x)) W ∙ max_to_ext _ _ w (same x d);
+        picks = λ x d. ap (λ (t : ℕ). get_or (take c store ++ (choice ++ drop n (drop c store))) (t + x) 0) (sym cs)
+            ∙ put_in store choice c n (omega arith) size x (omega arith) ∙ e.picks x (omega (arith, long))
+            ∙ ap (argmax (meets row msg x)) W ∙ argmax_ext _ _ w (same x d);
+        before = λ j d. put_before store choice c n (omega arith) size j (omega arith);
+        after = λ j d. past size j (omega arith) (ltb j (c + n)) refl;
+      }
+    where
+      past : length choice ≡ n → (j : ℕ) → c + (length row - w) ≤ j → (b : Bool) → ltb j (c + n) ≡ b
+          → get_or (take c store ++ (choice ++ drop n (drop c store))) j 0 ≡ get_or store j 0
+      past size j d true t =
+          let q : c + (j - c) ≡ j = omega arith in
+          let l : j - c < n = omega (arith, ltb-true j (c + n) t) in
+          ap (λ (t : ℕ). get_or (take c store ++ (choice ++ drop n (drop c store))) t 0) (sym q) ∙ put_in store choice c n (omega arith) size (j - c) l
+          ∙ e.past_picks (j - c) (omega (arith, long)) ∙ get_or-take n (drop c store) (j - c) 0 l ∙ get_or-drop c store (j - c) 0 ∙ ap (λ (t : ℕ). get_or store t 0) q
+      past size j d false t = put_past store choice c n (omega arith) size j (omega (arith, ltb-false j (c + n) t))
+
+-- ---- a row whose first len cells were lent is as long as before
+pub whole : (row last : List ℕ) (len : ℕ) → length (take len row) ≡ len → length last ≡ length (take len row) → length (last ++ drop len row) ≡ length row
+whole row last len n e = omega (arith, length-append last (drop len row), length-drop len row, length-take len row)
+
+-- ---- the same of the row whose first len cells were lent
+module _ (message row store last rest store' : List ℕ) (i w len : ℕ) (size : length (take len row) ≡ len) (t : Taken message (take len row) store last store' i w (length (take len row)))
+    (back : length last ≡ length (take len row)) (wl : w < len) where
+  there : (x : ℕ) → x < len - w → (p : ℕ) → p ≤ w → meet message (take len row) w x p ≡ meet message row w x p
+  there x d p lp = ap (λ (z : ℕ). get_or message p 0 ⊕ z) (get_or-take len row (x + (w - p)) 0 (omega arith))
+
+  pub taken_whole : Taken message row store (last ++ rest) store' i w len
+  taken_whole =
+      record {
+        cells = λ x d. get_or-append last rest 0 x (omega arith) ∙ t.cells x (omega arith) ∙ max_to_ext _ _ w (there x d);
+        picks = λ x d. t.picks x (omega arith) ∙ argmax_ext _ _ w (there x d);
+        before = t.before;
+        after = λ j d. t.after j (omega arith);
       }

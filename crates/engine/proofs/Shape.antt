@@ -8,7 +8,6 @@ use Rattle.problem.proofs.Form.{Walk, Rising}
 use Rattle.problem.proofs.Reach.{reach, reach_par, reach_other, reach_own}
 use Rattle.problem.proofs.Table.{reach_most}
 use Rattle.network.specs.declared.Feeder.{Feeder}
-use Rattle.network.specs.inner.Feeders.{Sound}
 use Rattle.engine.specs.inner.Words.{walk_of}
 
 pub record Shape (k : Walk) (n : ℕ) : Type 0 where
@@ -19,8 +18,9 @@ pub record Shape (k : Walk) (n : ℕ) : Type 0 where
   pub narrow : (i : ℕ) → k.wide i ≤ 80
   pub free : (i p : ℕ) → k.gain i p ≡ 1
 
-pub shape : (f : Feeder) (own : ℕ → ℕ → ℕ) → Sound f → Shape (walk_of f own) f.members
-shape f own s =
+pub shape : (f : Feeder) (own : ℕ → ℕ → ℕ) → Shape (walk_of f own) f.members
+shape f own =
+    let s = f.sound in
     record {
       some = s.some;
       few = s.few;

@@ -11,14 +11,18 @@ use Rattle.problem.proofs.Max.{pick}
 use Rattle.problem.proofs.Perm.{fold}
 use Rattle.problem.proofs.Transfer.{around, behind}
 use Rattle.network.specs.declared.Feeder.{Feeder}
-use Rattle.network.specs.inner.Feeders.{parent_at, toward_at, away_at, Sound}
+use Rattle.network.specs.inner.Positions.{Sound}
+use Rattle.network.specs.inner.Feeders.{parent_at, toward_at, away_at}
 use Rattle.engine.specs.inner.Words.{top_of}
 
 -- the positions below i added up
 unfoldable pub top_to : Feeder → ℕ → ℕ → ℕ
 top_to f v i = around (λ i. parent_at f i) (λ i. toward_at f i) (λ i. away_at f i) (i - 1) v
 
-module _ (f : Feeder) (s : Sound f) (v : ℕ) where
+module _ (f : Feeder) (v : ℕ) where
+  abbrev s : Sound f.members f.position
+  s = f.sound
+
   pub top_start : top_to f v 1 ≡ away_at f v
   unfolding top_to around fold
   top_start = add-zero (behind (λ d. away_at f (suc d)) v) ∙ go v

@@ -7,22 +7,23 @@ use Prim.Native.Nat.{ℕ, suc, ◌+◌, ◌-◌, ◌*◌, ◌<◌, ◌≤◌, �
 use native.Mathlib.Nat.{eq-or-lt_of_le}
 use native.Mathlib.Numerals.{add-one}
 use native.Mathlib.Omega.{arith}
-use mathlib.Core.List.{List}
-use lib.ListN.{length, get_or}
+use mathlib.Core.List.{List, []}
+use lib.ListN.{length, get_or, set}
+use lib.Seq.{get_or-set_same, get_or-set_other}
 use lib.Dec.{eqb, leb, lit<}
 use borrow.Author.Tests.{eqb-true, eqb-false, leb-true, leb-false}
 use Rattle.problem.proofs.Form.{Walk}
 use Rattle.problem.proofs.Reach.{reach, reach_par}
 use Rattle.problem.proofs.Table.{tab, chosen, tab_all, tab_kid, pick_kid, tab_other, tab_bound}
-use Rattle.engine.specs.inner.Words.{Small, slot_of, Sent, Kept, Taken}
+use Rattle.engine.specs.inner.Words.{Small, slot_of, cell_in, Sent, Kept, Taken}
 use Rattle.engine.proofs.Shape.{Shape, far, reach_first, reach_not}
 use Rattle.engine.proofs.Slots.{slot_apart}
 
--- what take_in asks
-abbrev pub Asked : List ℕ → List ℕ → ℕ → ℕ → ℕ → Type 0
+-- what take_in asks of the message of position i, of w + 1 cells, and of a row of len cells
+abbrev pub Asked : List (List ℕ) → List ℕ → ℕ → ℕ → ℕ → Type 0
 Asked msgs row i w len =
     ((1 ≤ i) × (i < 32) × (w ≤ 80) × (w < len) × (len ≤ w + (80 * (i - 1) + 1)))
-    × (((p : ℕ) → p ≤ w → get_or msgs (i * 81 + p) 0 < 2 ^ 31) × ((x : ℕ) → x < len → get_or row x 0 < 2 ^ 31))
+    × (((p : ℕ) → p ≤ w → cell_in msgs i p < 2 ^ 31) × ((x : ℕ) → x < len → get_or row x 0 < 2 ^ 31))
 
 module _ (k : Walk) (n : ℕ) where
   -- the row of v has taken in its children from position i on
@@ -31,14 +32,13 @@ module _ (k : Walk) (n : ℕ) where
     pub high : i ≤ n
     pub count : len ≡ 1 + reach k i v
     pub rows : length row ≡ 2481
-    pub stores : length store ≡ 37231
     pub cells : (x : ℕ) → x < len → get_or row x 0 ≡ tab k n i v x
     pub kept : Kept k n store v i
 
   -- what take_in leaves
-  abbrev pub Turned : List ℕ → List ℕ → List ℕ → ℕ → ℕ → ℕ → ℕ → Type 0
+  abbrev pub Turned : List ℕ → List ℕ → List (List ℕ) → ℕ → ℕ → ℕ → ℕ → Type 0
   Turned row store msgs v w len i =
-      (row' store' : List ℕ) → Taken msgs row store row' store' i w len → length row' ≡ length row → length store' ≡ length store → Gathering row' store' v (len - w) i
+      (row' store' : List ℕ) → Taken (get_or msgs i []) row store row' store' i w len → length row' ≡ length row → Gathering row' store' v (len - w) i
 
   -- the code counts down first
   pub fallen : {row store : List ℕ} {v len i : ℕ} → Gathering row store v len i → v + 1 < i → Gathering row store v len (suc (i - 1))
@@ -57,7 +57,6 @@ module _ (k : Walk) (n : ℕ) (s : Shape k n) where
         high = omega arith;
         count = omega (arith, g.count);
         rows = g.rows;
-        stores = g.stores;
         cells = λ x d. g.cells x d ∙ sym (tab_other k s.rising s.free n i v x h (λ e. o (sym e)));
         kept = record { kept = λ j y a b c d f. g.kept.kept j y a b c (λ q. past j (d q) q (eqb i j) refl) f };
       }
@@ -67,11 +66,11 @@ module _ (k : Walk) (n : ℕ) (s : Shape k n) where
       past j a q false t = omega (arith, eqb-false i j t)
 
   -- ---- a child i, whose message is taken in
-  module _ {row store msgs : List ℕ} {len i : ℕ} (g : Gathering k n row store (k.par i) len (suc i)) (h : 1 ≤ i) (m : Sent k n msgs (k.par i + 1)) where
+  module _ {row store : List ℕ} {msgs : List (List ℕ)} {len i : ℕ} (g : Gathering k n row store (k.par i) len (suc i)) (h : 1 ≤ i) (m : Sent k n msgs (k.par i + 1)) where
     left : len ≡ 1 + (reach k i (k.par i) + k.wide i)
     left = omega (arith, g.count, reach_par k s.rising i h)
 
-    below : (p : ℕ) → p ≤ k.wide i → get_or msgs (i * 81 + p) 0 ≡ tab k n (suc i) i p
+    below : (p : ℕ) → p ≤ k.wide i → cell_in msgs i p ≡ tab k n (suc i) i p
     below p b = m.sent i p (omega (arith, s.rising i h)) g.high b
 
     here : (x : ℕ) → x ≤ reach k (suc i) (k.par i) → get_or row x 0 ≡ tab k n (suc i) (k.par i) x
@@ -88,11 +87,11 @@ module _ (k : Walk) (n : ℕ) (s : Shape k n) where
         small : (j x : ℕ) → j < suc i → tab k n (suc i) j x < 2 ^ 31
         small j x d = omega (arith, lit< {m = 64000001} {n = 2 ^ 31} tt, s.few, tab_bound k s.rising s.free n 2000000 o (suc i) j x (omega arith) g.high d)
 
-    module _ (row' store' : List ℕ) (t : Taken msgs row store row' store' i (k.wide i) len) where
+    module _ (row' store' : List ℕ) (t : Taken (get_or msgs i []) row store row' store' i (k.wide i) len) where
       new_pick : (y : ℕ) → y ≤ reach k i (k.par i) → get_or store' (slot_of i + y) 0 ≡ chosen k n i y
       new_pick y b =
           t.picks y (omega (arith, left))
-          ∙ pick_kid k s.rising s.free n (λ p. get_or msgs (i * 81 + p) 0) (λ x. get_or row x 0) i h g.high below here y b
+          ∙ pick_kid k s.rising s.free n (λ p. cell_in msgs i p) (λ x. get_or row x 0) i h g.high below here y b
 
       old_pick : (j y : ℕ) → 1 ≤ j → y ≤ reach k j (k.par j) → j ≢ i → get_or store' (slot_of j + y) 0 ≡ get_or store (slot_of j + y) 0
       old_pick j y a f o = go (leb i j) refl
@@ -101,16 +100,15 @@ module _ (k : Walk) (n : ℕ) (s : Shape k n) where
           go true q = t.after _ (omega (arith, left, far k n s i (k.par i) (s.rising i h), slot_apart i j h (omega (arith, leb-true i j q))))
           go false q = t.before _ (omega (arith, far k n s j (k.par j) (s.rising j a), slot_apart j i a (leb-false i j q)))
 
-      turn_kid : length row' ≡ length row → length store' ≡ length store → Gathering k n row' store' (k.par i) (len - k.wide i) i
-      turn_kid lr ls =
+      turn_kid : length row' ≡ length row → Gathering k n row' store' (k.par i) (len - k.wide i) i
+      turn_kid lr =
           record {
             low = s.rising i h;
             high = omega (arith, g.high);
             count = omega (arith, left);
             rows = lr ∙ g.rows;
-            stores = ls ∙ g.stores;
             cells = λ x d. t.cells x d
-                ∙ tab_kid k s.rising s.free n (λ p. get_or msgs (i * 81 + p) 0) (λ x. get_or row x 0) i h g.high below here x (omega (arith, left));
+                ∙ tab_kid k s.rising s.free n (λ p. cell_in msgs i p) (λ x. get_or row x 0) i h g.high below here x (omega (arith, left));
             kept = record { kept = λ j y a b c d f. which j y a b c d f (eqb j i) refl };
           }
         where
@@ -123,7 +121,7 @@ module _ (k : Walk) (n : ℕ) (s : Shape k n) where
               old_pick j y a f o ∙ g.kept.kept j y a b c (λ z. omega (arith, d z)) f
 
   -- as the code has it: v is the parent, and w how wide the link is
-  pub kid_law : {row store : List ℕ} {v w len i : ℕ} (msgs : List ℕ) → Gathering k n row store v len (suc i) → 1 ≤ i → Sent k n msgs (v + 1) → k.par i ≡ v
+  pub kid_law : {row store : List ℕ} {v w len i : ℕ} (msgs : List (List ℕ)) → Gathering k n row store v len (suc i) → 1 ≤ i → Sent k n msgs (v + 1) → k.par i ≡ v
       → w ≡ k.wide i → (Small k.row → Asked msgs row i w len) × Turned k n row store msgs v w len i
   kid_law {row} {store} {v} {w} {len} {i} msgs g h m e we =
       subst (λ (u : ℕ). (Small k.row → Asked msgs row i u len) × Turned k n row store msgs v u len i) (sym we)
@@ -133,16 +131,15 @@ module _ (k : Walk) (n : ℕ) (s : Shape k n) where
       → (Small k.row → Asked msgs row i (k.wide i) len) × Turned k n row store msgs u (k.wide i) len i) e (λ g m. (kid_fits g h m, turn_kid g h m)) g m)
 
   -- ---- a member's first row, and its message in the end
-  pub start_law : (row store : List ℕ) (v len i : ℕ) → i ≡ n → v < n → len ≡ 1 + reach k n v → length row ≡ 2481 → length store ≡ 37231
+  pub start_law : (row store : List ℕ) (v len i : ℕ) → i ≡ n → v < n → len ≡ 1 + reach k n v → length row ≡ 2481
       → ((x : ℕ) → x < len → get_or row x 0 ≡ k.row v x) → Kept k n store v n → Gathering k n row store v len i
-  start_law row store v len i q l c lr ls e kept =
+  start_law row store v len i q l c lr e kept =
       subst (λ (t : ℕ). Gathering k n row store v len t) (sym q)
       record {
         low = l;
         high = omega arith;
         count = c;
         rows = lr;
-        stores = ls;
         cells = λ x d. e x d ∙ sym (tab_all k n v x);
         kept = kept;
       }
@@ -157,15 +154,17 @@ module _ (k : Walk) (n : ℕ) (s : Shape k n) where
     pub end_kept : Kept k n store v 0
     end_kept = record { kept = λ j y a b c d f. g.kept.kept j y a b c (λ z. omega (arith, last, s.rising j a)) f }
 
-    pub end_sent : (msgs msgs' : List ℕ) → Sent k n msgs (v + 1) → ((x : ℕ) → x < len → get_or msgs' (v * 81 + x) 0 ≡ get_or row x 0)
-        → ((j : ℕ) → v * 81 + len ≤ j → get_or msgs' j 0 ≡ get_or msgs j 0) → Sent k n msgs' v
-    end_sent msgs msgs' m ours others = record { sent = λ j p a b c. go j p b c (eq-or-lt_of_le a) }
+    -- its message put in the store; the others are as before
+    pub end_sent : (msgs : List (List ℕ)) (message : List ℕ) → v < length msgs → Sent k n msgs (v + 1)
+        → ((x : ℕ) → x < len → get_or message x 0 ≡ get_or row x 0) → Sent k n (set msgs v message) v
+    end_sent msgs message size m ours = record { sent = λ j p a b c. go j p b c (eq-or-lt_of_le a) }
       where
-        mine : (p : ℕ) → p ≤ k.wide v → get_or msgs' (v * 81 + p) 0 ≡ tab k n (suc v) v p
+        mine : (p : ℕ) → p ≤ k.wide v → cell_in (set msgs v message) v p ≡ tab k n (suc v) v p
         mine p c =
             let d : p < len = omega (arith, end_len) in
-            ours p d ∙ g.cells p d ∙ ap (λ (t : ℕ). tab k n t v p) (last ∙ add-one v)
+            ap (λ (r : List ℕ). get_or r p 0) (get_or-set_same msgs v message [] size) ∙ ours p d ∙ g.cells p d ∙ ap (λ (t : ℕ). tab k n t v p) (last ∙ add-one v)
 
-        go : (j p : ℕ) → j < n → p ≤ k.wide j → (v ≡ j) ⊎ (v < j) → get_or msgs' (j * 81 + p) 0 ≡ tab k n (suc j) j p
-        go j p b c (inl e) = subst (λ (t : ℕ). p ≤ k.wide t → get_or msgs' (t * 81 + p) 0 ≡ tab k n (suc t) t p) e (mine p) c
-        go j p b c (inr l) = others (j * 81 + p) (omega (arith, end_len, s.narrow v)) ∙ m.sent j p (omega arith) b c
+        go : (j p : ℕ) → j < n → p ≤ k.wide j → (v ≡ j) ⊎ (v < j) → cell_in (set msgs v message) j p ≡ tab k n (suc j) j p
+        go j p b c (inl e) = subst (λ (t : ℕ). p ≤ k.wide t → cell_in (set msgs v message) t p ≡ tab k n (suc t) t p) e (mine p) c
+        go j p b c (inr l) =
+            ap (λ (r : List ℕ). get_or r p 0) (get_or-set_other msgs v j message [] (λ e. omega arith)) ∙ m.sent j p (omega arith) b c

@@ -1,80 +1,64 @@
 // Choices come down the walk, the first position first: each link's choice is read where its parent's index points, and
 // the choices make what each member buys and sends. `choose` promises the choices of elimination, and `settle` the nets
 // and flows that they make.
-ghost use Rattle.std.specs.Prelude.{◌≡◌, ℕ, ◌≤◌, ◌<◌, pos, ◌-ℤ◌, length, get_or};
-ghost use Rattle.network.specs.inner.Feeders.{away_at, Sound};
-ghost use Rattle.engine.specs.inner.Words.{walk_of, top_of, Kept, Settled, Flows, choice_places};
+ghost use Rattle.std.specs.Prelude.{◌≡◌, ℕ, ◌≤◌, ◌<◌, pos, ◌-ℤ◌};
+ghost use Rattle.network.specs.inner.Feeders.{away_at};
+ghost use Rattle.engine.specs.inner.Words.{walk_of, top_of, choice_in, Kept, Settled, Flows};
 
-use crate::Solution;
-use crate::upward::{slot, top, wide, width};
+use crate::Trade;
+use crate::links::{top, width};
+use crate::stores::{CHOICES, slot};
 use network::Feeder;
 use numbers::Units;
 
-// By position: the choice on its link, and the index that all the choices give it.
+// The choice on a position's link, and the index that all the choices give the position.
 #[derive(Clone, Copy)]
-pub struct Chosen {
-    pub choice: [u8; 32],
-    pub index: [usize; 32],
+pub struct Choice {
+    pub taken: u8,
+    pub index: u16,
 }
 
 // The choices, read from what was kept.
-pub fn choose(feeder: Feeder, choices: &[u8]) -> Chosen
-    requires { Sound feeder × (length choices.now ≡ choice_places) × ((own : ℕ → ℕ → ℕ) × Kept (walk_of feeder own) feeder.members choices.now 0 0) }
-    ensures { (own : ℕ → ℕ → ℕ) → Kept (walk_of feeder own) feeder.members choices.now 0 0 → Settled (walk_of feeder own) feeder.members result.choice result.index }
+pub fn choose(feeder: &Feeder, choices: &[u8; CHOICES]) -> [Choice; 32]
+    requires { (own : ℕ → ℕ → ℕ) × Kept (walk_of feeder.now own) feeder.now.members choices.now 0 0 }
+    ensures { (own : ℕ → ℕ → ℕ) → Kept (walk_of feeder.now own) feeder.now.members choices.now 0 0 → Settled (walk_of feeder.now own) feeder.now.members result }
 {
-    let n = wide(feeder.members);
-    let mut chosen = Chosen {
-        choice: [0; 32],
-        index: [0; 32],
-    };
-    let mut i: usize = 1;
-    while i < n {
-        let parent = wide(feeder.parent[i]);
-        let x = chosen.index[parent];
-        let at = slot(i) + x;
-        let c = choices[at];
-        chosen.choice[i] = c;
-        let p = wide(c);
-        let w = width(feeder, i);
-        chosen.index[parent] = x + (w - p);
-        chosen.index[i] = p;
-        i += 1;
+    let mut chosen = [Choice { taken: 0, index: 0 }; 32];
+    for i in 1..usize::from(feeder.members) {
+        let parent = usize::from(feeder.position[i].parent);
+        let x = chosen[parent].index;
+        let taken = choices[slot(i) + usize::from(x)];
+        let index = u16::from(taken);
+        chosen[parent].index = x + (width(feeder, i) - index);
+        chosen[i] = Choice { taken, index };
     }
     chosen
 }
 
-// What the member at i buys, where its index is given.
-fn net_of(feeder: Feeder, i: usize, index: usize) -> Units
-    requires { Sound feeder × (i < feeder.members) × (index ≤ 2480) }
-    ensures { result.0 ≡ pos (top_of feeder i) -ℤ pos index }
+// What a choice makes of the member at i: what it buys by the index, and what its link carries toward member 1.
+fn trade_of(feeder: &Feeder, i: usize, choice: Choice) -> Trade
+    requires { (i < feeder.now.members) × (choice.index ≤ 2480) }
+    ensures net { result.net.0 ≡ pos (top_of feeder.now i) -ℤ pos choice.index }
+    ensures sent { result.sent.0 ≡ pos choice.taken -ℤ pos (away_at feeder.now i) }
 {
-    let most = top(feeder, i);
-    most.minus(Units::of(index as u16))
+    let flow = Units::of(u16::from(choice.taken));
+    let net = top(feeder, i) - Units::of(choice.index);
+    let sent = flow - feeder.position[i].away;
+    Trade { net, sent }
 }
 
-// What the link of position i carries toward member 1, where its choice is given.
-fn sent_of(feeder: Feeder, i: usize, choice: u8) -> Units
-    requires { Sound feeder × (i < 32) }
-    ensures { result.0 ≡ pos choice -ℤ pos (away_at feeder i) }
+// What the choices make.
+#[tactic(auto, using(crate::proofs::Fill::flows_none, crate::proofs::Fill::flows_more))]
+pub fn settle(feeder: &Feeder, chosen: &[Choice; 32]) -> [Trade; 32]
+    requires { (i : ℕ) → i < feeder.now.members → (choice_in chosen.now i).index ≤ 2480 }
+    ensures { Flows feeder.now chosen.now result feeder.now.members }
 {
-    let flow = Units::of(choice as u16);
-    let away = feeder.away[i];
-    flow.minus(away)
-}
-
-// What the choices make, beside the cell of the best total.
-pub fn settle(feeder: Feeder, best: u32, chosen: Chosen) -> Solution
-    requires { Sound feeder × ((i : ℕ) → i < feeder.members → get_or chosen.index i 0 ≤ 2480) }
-    ensures { (result.best ≡ best) × Flows feeder chosen.choice chosen.index result.net result.sent }
-{
-    let n = wide(feeder.members);
-    let mut net = [Units(0); 32];
-    let mut sent = [Units(0); 32];
-    let mut i: usize = 0;
-    while i < n {
-        net[i] = net_of(feeder, i, chosen.index[i]);
-        sent[i] = sent_of(feeder, i, chosen.choice[i]);
-        i += 1;
+    let mut trades = [Trade {
+        net: Units(0),
+        sent: Units(0),
+    }; 32];
+    for i in 0..usize::from(feeder.members) {
+        trades[i] = trade_of(feeder, i, chosen[i]);
     }
-    Solution { best, net, sent }
+    trades
 }

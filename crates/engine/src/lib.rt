@@ -3,35 +3,47 @@
 // down it. `solve` promises the best total, and the first of the choices that make it.
 #![tactic(auto)]
 
-ghost use Rattle.network.specs.inner.Feeders.{Sound};
+ghost use Rattle.std.specs.Prelude.{◌≡◌, IfNone, IfSome};
 ghost use Rattle.records.specs.Records.{entries};
 ghost use Rattle.records.specs.Market.{offers_of};
-ghost use Rattle.engine.specs.inner.Words.{own_of, Solved};
+ghost use Rattle.engine.specs.inner.Words.{own_of, best_of, Solved};
 
 use network::Feeder;
 use numbers::Units;
 
 mod downward;
+mod links;
+mod stores;
 mod upward;
 
-// By position: what the member there buys, and what its link carries toward member 1. Past the members stands 0.
+// What a member buys, and what its link carries toward member 1.
 #[derive(Clone, Copy)]
-pub struct Solution {
-    // the cell of the best total, 0 where there is none
-    pub best: u32,
-    pub net: [Units; 32],
-    pub sent: [Units; 32],
+pub struct Trade {
+    pub net: Units,
+    pub sent: Units,
 }
 
-// The best total over a feeder, where every member's table stands in the same records.
-pub fn solve(feeder: Feeder, records: &[u8]) -> Solution
-    requires { Sound feeder }
-    ensures { Solved feeder (own_of feeder (offers_of (entries records.now))) result.best result.net result.sent }
+// The best total, and by position what makes it. Past the members stands 0.
+#[derive(Clone, Copy)]
+pub struct Solution {
+    // the cell of the best total, at least 1
+    pub best: u32,
+    pub trades: [Trade; 32],
+}
+
+// The best total over a feeder, where every member's table stands in the same records; none where no allocation is
+// possible.
+pub fn solve(feeder: &Feeder, records: &[u8]) -> Option<Solution>
+    ensures none { IfNone result (best_of feeder.now (own_of feeder.now (offers_of (entries records.now))) ≡ 0) }
+    ensures some { IfSome result (λ s. Solved feeder.now (own_of feeder.now (offers_of (entries records.now))) s) }
 {
-    let mut row: [u32; 2481] = [0; 2481];
-    let mut messages: [u32; 2592] = [0; 2592];
-    let mut choices: [u8; 37231] = [0; 37231];
-    upward::upward(feeder, records, &mut row, &mut messages, &mut choices);
-    let chosen = downward::choose(feeder, &choices);
-    downward::settle(feeder, messages[0], chosen)
+    let mut stores = stores::Stores::new();
+    upward::upward(feeder, records, &mut stores);
+    let best = stores.messages[0][0];
+    if best == 0 {
+        return None;
+    }
+    let chosen = downward::choose(feeder, &stores.choices);
+    let trades = downward::settle(feeder, &chosen);
+    Some(Solution { best, trades })
 }

@@ -1,8 +1,7 @@
 -- A feeder as the walk that elimination runs over, what the stores of messages and of choices hold, and what solves it.
 -- Words of the contracts: the positions of the walk are 0, 1, .., and n is how many there are.
-use Rattle.std.specs.Prelude.{◌≡◌, List, ◌∷◌, ℕ, suc, ◌+◌, ◌-◌, ◌*◌, ◌≤◌, ◌<◌, pos, ◌-ℤ◌, get_or}
-use Rattle.numbers.specs.declared.Units.{Units}
-use Rattle.numbers.specs.inner.Held.{units_in}
+use Rattle.std.specs.Prelude.{◌≡◌, List, [], ◌∷◌, ℕ, suc, ◌+◌, ◌-◌, ◌*◌, ◌≤◌, ◌<◌, ℤ, pos, ◌-ℤ◌, get_or}
+use Rattle.numbers.specs.inner.Held.{units}
 use Rattle.problem.specs.Problem.{Offer, value}
 use Rattle.problem.proofs.Cell.{◌⊕◌}
 use Rattle.problem.proofs.Max.{max_to, argmax}
@@ -17,6 +16,10 @@ use Rattle.network.specs.declared.Feeder.{Feeder}
 use Rattle.network.specs.inner.Feeders.{member_at, parent_at, toward_at, away_at}
 use Rattle.records.specs.Records.{entries}
 use Rattle.records.specs.Market.{offers_of}
+use Rattle.engine.specs.declared.Solution.{Solution}
+use Rattle.engine.specs.declared.Trade.{Trade}
+use Rattle.engine.specs.declared.downward.Choice.{Choice}
+use Rattle.engine.specs.declared.stores.Stores.{Stores}
 
 -- own v x: the cell of position v's own row at x
 abbrev pub walk_of : Feeder → (ℕ → ℕ → ℕ) → Walk
@@ -30,15 +33,18 @@ top_of f v = around (λ i. parent_at f i) (λ i. toward_at f i) (λ i. away_at f
 unfoldable pub own_of : Feeder → List Offer → ℕ → ℕ → ℕ
 own_of f os v x = cell_of 1000000 (value os (member_at f v) (pos (top_of f v) -ℤ pos x))
 
--- the cells of a row, of the messages of 32 positions, and the places of their choices
-abbrev pub row_cells : ℕ
-row_cells = 2481
+-- what a position's arrays hold, read by place; past the end stands nothing
+abbrev pub cell_in : List (List ℕ) → ℕ → ℕ → ℕ
+cell_in messages i p = get_or (get_or messages i []) p 0
 
-abbrev pub message_cells : ℕ
-message_cells = 2592
+abbrev pub choice_in : List Choice → ℕ → Choice
+choice_in choices i = get_or choices i (record { taken = 0; index = 0 })
 
-abbrev pub choice_places : ℕ
-choice_places = 37231
+abbrev pub net_in : List Trade → ℕ → ℤ
+net_in trades i = (get_or trades i (record { net = units (pos 0); sent = units (pos 0) })).net.0
+
+abbrev pub sent_in : List Trade → ℕ → ℤ
+sent_in trades i = (get_or trades i (record { net = units (pos 0); sent = units (pos 0) })).sent.0
 
 -- no price is past 1,000,000
 abbrev pub Small : (ℕ → ℕ → ℕ) → Type 0
@@ -49,52 +55,58 @@ unfoldable pub slot_of : ℕ → ℕ
 slot_of i = (i - 1) * (40 * (i - 1) + 1) - 40 * (i - 1)
 
 -- the messages of the positions from lo on
-pub record Sent (k : Walk) (n : ℕ) (msgs : List ℕ) (lo : ℕ) : Type 0 where
-  pub sent : (i p : ℕ) → lo ≤ i → i < n → p ≤ k.wide i → get_or msgs (i * 81 + p) 0 ≡ tab k n (suc i) i p
+pub record Sent (k : Walk) (n : ℕ) (messages : List (List ℕ)) (lo : ℕ) : Type 0 where
+  pub sent : (i p : ℕ) → lo ≤ i → i < n → p ≤ k.wide i → cell_in messages i p ≡ tab k n (suc i) i p
 
 -- the choices of the positions whose parent is past v, and of those from lo on whose parent is v
-pub record Kept (k : Walk) (n : ℕ) (store : List ℕ) (v lo : ℕ) : Type 0 where
-  pub kept : (i y : ℕ) → 1 ≤ i → i < n → v ≤ k.par i → (k.par i ≡ v → lo ≤ i) → y ≤ reach k i (k.par i) → get_or store (slot_of i + y) 0 ≡ chosen k n i y
+pub record Kept (k : Walk) (n : ℕ) (choices : List ℕ) (v lo : ℕ) : Type 0 where
+  pub kept : (i y : ℕ) → 1 ≤ i → i < n → v ≤ k.par i → (k.par i ≡ v → lo ≤ i) → y ≤ reach k i (k.par i) → get_or choices (slot_of i + y) 0 ≡ chosen k n i y
 
--- what the message of position i at p and the row make together at x
-abbrev pub meet : List ℕ → List ℕ → ℕ → ℕ → ℕ → ℕ → ℕ
-meet msgs row i w x p = get_or msgs (i * 81 + p) 0 ⊕ get_or row (x + (w - p)) 0
+-- what the message at p and the row make together at x
+abbrev pub meet : List ℕ → List ℕ → ℕ → ℕ → ℕ → ℕ
+meet message row w x p = get_or message p 0 ⊕ get_or row (x + (w - p)) 0
 
 -- the message of position i, of w + 1 cells, taken into a row of len cells
-pub record Taken (msgs row store row' store' : List ℕ) (i w len : ℕ) : Type 0 where
-  pub cells : (x : ℕ) → x < len - w → get_or row' x 0 ≡ max_to (meet msgs row i w x) w
-  pub picks : (x : ℕ) → x < len - w → get_or store' (slot_of i + x) 0 ≡ argmax (meet msgs row i w x) w
+pub record Taken (message row store row' store' : List ℕ) (i w len : ℕ) : Type 0 where
+  pub cells : (x : ℕ) → x < len - w → get_or row' x 0 ≡ max_to (meet message row w x) w
+  pub picks : (x : ℕ) → x < len - w → get_or store' (slot_of i + x) 0 ≡ argmax (meet message row w x) w
   pub before : (j : ℕ) → j < slot_of i → get_or store' j 0 ≡ get_or store j 0
   pub after : (j : ℕ) → slot_of i + (len - w) ≤ j → get_or store' j 0 ≡ get_or store j 0
 
 -- before the member at v: its own row is what the table makes, and all past it have sent their messages
-pub record Ready (f : Feeder) (table : List ℕ) (v : ℕ) (msgs store : List ℕ) (own : ℕ → ℕ → ℕ) : Type 0 where
+pub record Ready (f : Feeder) (table : List ℕ) (v : ℕ) (s : Stores) (own : ℕ → ℕ → ℕ) : Type 0 where
   pub small : Small own
   pub row_is : (x : ℕ) → own v x ≡ own_of f (offers_of (entries table)) v x
-  pub sent : Sent (walk_of f own) f.members msgs (v + 1)
-  pub kept : Kept (walk_of f own) f.members store v f.members
+  pub sent : Sent (walk_of f own) f.members s.messages (v + 1)
+  pub kept : Kept (walk_of f own) f.members s.choices v f.members
 
 -- after it
-pub record Done (f : Feeder) (v : ℕ) (msgs store : List ℕ) (own : ℕ → ℕ → ℕ) : Type 0 where
-  pub sent : Sent (walk_of f own) f.members msgs v
-  pub kept : Kept (walk_of f own) f.members store v 0
+pub record Done (f : Feeder) (v : ℕ) (s : Stores) (own : ℕ → ℕ → ℕ) : Type 0 where
+  pub sent : Sent (walk_of f own) f.members s.messages v
+  pub kept : Kept (walk_of f own) f.members s.choices v 0
 
 -- the choice at each of n positions, and the index that the choices give it
-pub record Settled (k : Walk) (n : ℕ) (choice index : List ℕ) : Type 0 where
-  pub choices : (i : ℕ) → i < n → get_or choice i 0 ≡ get_or (0 ∷ picks k (n - 1) 1 start) i 0
-  pub indexed : (i : ℕ) → i < n → get_or index i 0 ≡ indices k 1 start (picks k (n - 1) 1 start) i
-  pub within : (i : ℕ) → i < n → get_or index i 0 ≤ 2480
+pub record Settled (k : Walk) (n : ℕ) (chosen : List Choice) : Type 0 where
+  pub choices : (i : ℕ) → i < n → (choice_in chosen i).taken ≡ get_or (0 ∷ picks k (n - 1) 1 start) i 0
+  pub indexed : (i : ℕ) → i < n → (choice_in chosen i).index ≡ indices k 1 start (picks k (n - 1) 1 start) i
+  pub within : (i : ℕ) → i < n → (choice_in chosen i).index ≤ 2480
 
--- what the choices and indices make at each position
-pub record Flows (f : Feeder) (choice index : List ℕ) (net sent : List Units) : Type 0 where
-  pub nets : (i : ℕ) → i < f.members → units_in net i ≡ pos (top_of f i) -ℤ pos (get_or index i 0)
-  pub sends : (i : ℕ) → i < f.members → units_in sent i ≡ pos (get_or choice i 0) -ℤ pos (away_at f i)
-  pub past : (i : ℕ) → f.members ≤ i → (units_in net i ≡ pos 0) × (units_in sent i ≡ pos 0)
+-- what the choices make at each of n positions, and nothing past them
+pub record Flows (f : Feeder) (chosen : List Choice) (trades : List Trade) (n : ℕ) : Type 0 where
+  pub nets : (i : ℕ) → i < n → net_in trades i ≡ pos (top_of f i) -ℤ pos (choice_in chosen i).index
+  pub sends : (i : ℕ) → i < n → sent_in trades i ≡ pos (choice_in chosen i).taken -ℤ pos (away_at f i)
+  pub past : (i : ℕ) → n ≤ i → (net_in trades i ≡ pos 0) × (sent_in trades i ≡ pos 0)
 
--- the cell of the best total, 0 where there is none, and what each position buys and sends toward member 1
-pub record Solved (f : Feeder) (own : ℕ → ℕ → ℕ) (best : ℕ) (net sent : List Units) : Type 0 where
-  pub best_is : best ≡ run (walk_of f own) (f.members - 1) 1 0 0
+-- the cell of the best total, 0 where there is none
+unfoldable pub best_of : Feeder → (ℕ → ℕ → ℕ) → ℕ
+best_of f own = run (walk_of f own) (f.members - 1) 1 0 0
+
+-- a solution: the cell of the best total, and what each position buys and sends toward member 1
+pub record Solved (f : Feeder) (own : ℕ → ℕ → ℕ) (s : Solution) : Type 0 where
+  pub some : 1 ≤ s.best
+  pub best_is : s.best ≡ best_of f own
   pub nets : (i : ℕ) → i < f.members
-      → units_in net i ≡ pos (top_of f i) -ℤ pos (indices (walk_of f own) 1 start (picks (walk_of f own) (f.members - 1) 1 start) i)
-  pub sends : (i : ℕ) → i < f.members → units_in sent i ≡ pos (get_or (0 ∷ picks (walk_of f own) (f.members - 1) 1 start) i 0) -ℤ pos (away_at f i)
-  pub past : (i : ℕ) → f.members ≤ i → (units_in net i ≡ pos 0) × (units_in sent i ≡ pos 0)
+      → net_in s.trades i ≡ pos (top_of f i) -ℤ pos (indices (walk_of f own) 1 start (picks (walk_of f own) (f.members - 1) 1 start) i)
+  pub sends : (i : ℕ) → i < f.members
+      → sent_in s.trades i ≡ pos (get_or (0 ∷ picks (walk_of f own) (f.members - 1) 1 start) i 0) -ℤ pos (away_at f i)
+  pub past : (i : ℕ) → f.members ≤ i → (net_in s.trades i ≡ pos 0) × (sent_in s.trades i ≡ pos 0)

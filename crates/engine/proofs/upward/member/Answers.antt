@@ -1,82 +1,129 @@
 -- `member` meets its contract. The loop's invariant: for every own row that the table makes, the row has taken in the children
--- from position k on.
+-- from position k on; no message has changed.
 use native.Mathlib.Omega.{arith}
-use mathlib.Core.Path.{◌≡◌, sym, ◌∙◌}
-use mathlib.Core.List.{List}
-use Prim.Native.Nat.{ℕ, ◌+◌, ◌-◌, ◌<◌}
-use Rattle.network.specs.declared.Feeder.{Feeder}
-use Rattle.network.specs.inner.Feeders.{parent_at, toward_at, away_at, Sound}
+use mathlib.Core.Path.{◌≡◌, refl, sym, ◌∙◌}
+use mathlib.Core.List.{[]}
+use Prim.Native.Nat.{ℕ, ◌+◌, ◌*◌, ◌-◌, ◌<◌, ◌≤◌, ◌^◌}
+use lib.ListN.{length, take}
+use lib.Seq.{get_or-take, set-get_or, length-take-le}
+use Rattle.std.proofs.Common.{rules}
 use Rattle.engine.specs.inner.Words.{walk_of, Small, Ready}
 use Rattle.engine.proofs.Shape.{shape, far}
-use Rattle.engine.proofs.Turns.{Gathering, fallen, Asked, Turned, kid_law, turn_not, start_law, end_len, end_kept, end_sent}
+use Rattle.engine.proofs.Parts.{fronts, whole, taken_whole}
+use Rattle.engine.proofs.Passes.{own_law}
+use Rattle.engine.proofs.Turns.{fallen, Asked, Turned, kid_law, turn_not, start_law, end_len, end_kept, end_sent}
 use Rattle.engine.proofs.upward.member.Goals as goal
+use Rattle.engine.proofs.upward.member.Goals.{After-from-w, After-row_len-len, At-loop-k}
 
-pub own_cells-requires : goal.own_cells-requires
-own_cells-requires c =
-    let r = c.requires in
-    let s = shape c.args.feeder r.ready.0 r.feeder.0 in
-    (r.feeder.0, r.feeder.1, omega (arith, c.row_len-len.ensures r.ready.0, far (walk_of c.args.feeder r.ready.0) _ s _ c.args.v r.feeder.1, s.few, r.sizes.0), r.sizes.0)
-
-pub loop-k-init : goal.loop-k-init
-loop-k-init c = λ own r.
-    let o = c.own_cells in
-    let f = c.args.feeder in
+-- the row is within its array
+fits : (c : After-row_len-len) → c.row_len-len.result ≤ 2481
+fits c =
     let q = c.requires in
-    start_law (walk_of f own) f.members (shape f own q.feeder.0) _ c.args.choices.now c.args.v c.row_len-len.result c.wide-k.result c.wide-k.ensures q.feeder.1 (c.row_len-len.ensures own)
-    (o.auto.row ∙ q.sizes.0) q.sizes.2 (λ x d. o.ensures x d ∙ sym (r.row_is x)) r.kept
+    let z = shape c.args.feeder.now q.ready.0 in
+    omega (arith, c.row_len-len.ensures q.ready.0, far (walk_of c.args.feeder.now q.ready.0) _ z _ c.args.v q.feeder, z.few)
+
+pub slice_bounds-own_row-end : goal.slice_bounds-own_row-end
+slice_bounds-own_row-end c = let h = fits (goal.at.slice_bounds-own_row-end c).After-row_len-len in search rules
 
 -- a child of v: what taking in its message asks, and how the row stands then
-kid : (f : Feeder) (own : ℕ → ℕ → ℕ) {table msgs first row store : List ℕ} {v len k n w : ℕ} → Sound f → Ready f table v msgs first own
-    → ((own : ℕ → ℕ → ℕ) → Ready f table v msgs first own → Gathering (walk_of f own) f.members row store v len k)
-    → v + 1 < k → n ≡ parent_at f (k - 1) → n ≡ v → w ≡ toward_at f (k - 1) + away_at f (k - 1)
-    → (Small own → Asked msgs row (k - 1) w len) × Turned (walk_of f own) f.members row store msgs v w len (k - 1)
-kid f own {msgs = msgs} s r g l en e ew =
-    kid_law (walk_of f own) f.members (shape f own s) msgs (fallen _ _ (g own r) l) (omega arith) r.sent (sym en ∙ e) ew
+kid : (c : After-from-w) (own : ℕ → ℕ → ℕ) → Ready c.args.feeder.now c.args.table.now c.args.v c.args.stores.now own
+    → (Small own → Asked c.loop-k.stores.messages c.loop-k.row (c.loop-k.k - 1) c.from-w.result c.loop-k.len)
+    × Turned (walk_of c.args.feeder.now own) c.args.feeder.now.members c.loop-k.row c.loop-k.stores.choices c.loop-k.stores.messages c.args.v c.from-w.result c.loop-k.len (c.loop-k.k - 1)
+kid c own r =
+    let f = c.args.feeder.now in
+    kid_law (walk_of f own) f.members (shape f own) c.loop-k.stores.messages (fallen _ _ (c.loop-k.invariant.gathered own r) (omega arith)) (omega arith)
+    (rw c.loop-k.invariant.messages r.sent) (omega arith) (omega arith)
+
+-- its sizes
+sizes : (c : After-from-w)
+    → (1 ≤ c.loop-k.k - 1) × (c.loop-k.k - 1 < 32) × (c.from-w.result ≤ 80) × (c.from-w.result < c.loop-k.len)
+    × (c.loop-k.len ≤ c.from-w.result + (80 * (c.loop-k.k - 1 - 1) + 1))
+sizes c = let r = c.requires.ready.1 in ((kid c c.requires.ready.0 r).0 r.small).0
+
+front : (c : After-from-w) → length (take c.loop-k.len c.loop-k.row) ≡ c.loop-k.len
+front c =
+    let r = c.requires.ready in
+    length-take-le c.loop-k.len c.loop-k.row (omega (arith, (c.loop-k.invariant.gathered r.0 r.1).rows, sizes c))
+
+pub slice_bounds-take_in-end : goal.slice_bounds-take_in-end
+slice_bounds-take_in-end c =
+    let s = sizes (goal.at.slice_bounds-take_in-end c).After-from-w in
+    let h : c.loop-k.len ≤ 2481 = omega (arith, s) in
+    search rules
 
 pub overflow_sub-len : goal.overflow_sub-len
-overflow_sub-len c =
-    let r = c.requires.ready.1 in
-    let k = kid c.args.feeder c.requires.ready.0 c.requires.feeder.0 r c.loop-k.invariant c.loop-k-test.true c.wide.ensures c.if-wide-v.true c.width-w.ensures in
-    omega (arith, (k.0 r.small).0.3)
+overflow_sub-len c = let s = sizes (goal.at.overflow_sub-len c).After-from-w in omega (arith, s)
+
+pub loop-k-preserved : goal.loop-k-preserved
+loop-k-preserved c = record {
+  messages = c.loop-k.invariant.messages;
+  gathered = λ own r.
+      let f = c.args.feeder.now in
+      turn_not (walk_of f own) _ (shape f own) (fallen _ _ (c.loop-k.invariant.gathered own r) (omega arith)) (omega arith) (λ e. c.if-from-v.false (omega arith));
+}
+
+pub loop-k-init : goal.loop-k-init
+loop-k-init c =
+    let f = c.args.feeder.now in
+    let q = c.requires in
+    let h = fits (goal.at.loop-k-init c).After-row_len-len in
+    let n : length (take c.row_len-len.result c.args.row.now) ≡ c.row_len-len.result = search rules in
+    record {
+      messages = refl;
+      gathered = λ own r.
+          start_law (walk_of f own) f.members (shape f own) _ _ c.args.v _ _ c.from-k.ensures q.feeder (c.row_len-len.ensures own)
+          (whole c.args.row.now c.own_row.new.row _ n c.own_row.auto.row ∙ omega arith)
+          (λ x d. own_law f c.args.table.now c.own_row.new.row _ c.args.v c.row_len-len.result _ c.top.result.0 n c.top.ensures c.own_row.auto.row c.own_row.ensures x d ∙ sym (r.row_is x)) r.kept;
+    }
 
 pub take_in-requires-clause-cells : goal.take_in-requires-clause-cells
 take_in-requires-clause-cells c =
-    let r = c.requires.ready.1 in
-    let k = kid c.args.feeder c.requires.ready.0 c.requires.feeder.0 r c.loop-k.invariant c.loop-k-test.true c.wide.ensures c.if-wide-v.true c.width-w.ensures in
-    (k.0 r.small).0
+    let b = (goal.at.take_in-requires-clause-cells c).After-from-w in
+    let s = sizes b in
+    let n = front b in
+    (s.0, s.1, s.2, omega (arith, n, s), omega (arith, n, s))
 
 pub take_in-requires-clause-values : goal.take_in-requires-clause-values
 take_in-requires-clause-values c =
     let r = c.requires.ready.1 in
-    let k = kid c.args.feeder c.requires.ready.0 c.requires.feeder.0 r c.loop-k.invariant c.loop-k-test.true c.wide.ensures c.if-wide-v.true c.width-w.ensures in
-    (k.0 r.small).1
+    let a = ((kid (goal.at.take_in-requires-clause-values c).After-from-w c.requires.ready.0 r).0 r.small).1 in
+    (fronts (λ (z : ℕ). z < 2 ^ 31) _ _ a.1, a.0)
 
-pub loop-k-preserved-then-wide-v : goal.loop-k-preserved-then-wide-v
-loop-k-preserved-then-wide-v c = λ own r.
-    let k = kid c.args.feeder own c.requires.feeder.0 r c.loop-k.invariant c.loop-k-test.true c.wide.ensures c.if-wide-v.true c.width-w.ensures in
-    k.1 _ _ c.take_in.ensures c.take_in.auto.row c.take_in.auto.choices
+pub loop-k-preserved-then-from-v : goal.loop-k-preserved-then-from-v
+loop-k-preserved-then-from-v c =
+    let b = (goal.at.loop-k-preserved-then-from-v c).After-from-w in
+    let n = front b in
+    record {
+      messages = set-get_or c.loop-k.stores.messages _ [] ∙ c.loop-k.invariant.messages;
+      gathered = λ own r.
+          (kid b own r).1 _ _
+          (taken_whole _ c.loop-k.row _ c.take_in.new.row _ _ _ _ _ n c.take_in.ensures c.take_in.auto.row (sizes b).3)
+          (whole c.loop-k.row c.take_in.new.row _ n c.take_in.auto.row);
+    }
 
-pub loop-k-preserved : goal.loop-k-preserved
-loop-k-preserved c = λ own r.
-    let f = c.args.feeder in
-    turn_not (walk_of f own) _ (shape f own c.requires.feeder.0) (fallen _ _ (c.loop-k.invariant own r) c.loop-k-test.true) (omega arith) (λ e. c.if-wide-v.false (c.wide.ensures ∙ e))
+-- at the end: what is left of the row is v's message
+ends : (c : At-loop-k) → c.loop-k.k ≤ c.args.v + 1 → c.loop-k.len ≤ 81
+ends c q =
+    let r = c.requires.ready in
+    let z = shape c.args.feeder.now r.0 in
+    omega (arith, end_len (walk_of c.args.feeder.now r.0) _ z (c.loop-k.invariant.gathered r.0 r.1) q, z.narrow c.args.v)
+
+pub shared_ref_as_front-put_message : goal.shared_ref_as_front-put_message
+shared_ref_as_front-put_message c = omega (arith, ends (goal.at.shared_ref_as_front-put_message c).At-loop-k c.loop-k-test.false)
 
 pub put_message-requires : goal.put_message-requires
-put_message-requires c =
-    let q = c.requires in
-    let own = q.ready.0 in
-    let f = c.args.feeder in
-    let s = shape f own q.feeder.0 in
-    let g = c.loop-k.invariant own q.ready.1 in
-    (g.rows, q.sizes.1, omega (arith, q.feeder.1, s.few), omega (arith, end_len (walk_of f own) _ s g c.loop-k-test.false, s.narrow c.args.v))
+put_message-requires c = let h = ends (goal.at.put_message-requires c).At-loop-k c.loop-k-test.false in search rules
 
 pub returns : goal.returns
 returns c = λ own r.
-    let f = c.args.feeder in
-    let s = shape f own c.requires.feeder.0 in
-    let g = c.loop-k.invariant own r in
+    let f = c.args.feeder.now in
+    let s = shape f own in
+    let g = c.loop-k.invariant.gathered own r in
     let q = c.loop-k-test.false in
+    let lm : c.args.v < length c.loop-k.stores.messages = search rules in
+    let n : length (take c.loop-k.len c.loop-k.row) ≡ c.loop-k.len = search rules in
     record {
-      sent = end_sent (walk_of f own) _ s g q c.args.messages.now _ r.sent c.put_message.ensures.ours c.put_message.ensures.others;
+      sent = end_sent (walk_of f own) _ s g q c.loop-k.stores.messages _ lm (rw c.loop-k.invariant.messages r.sent)
+          (λ x d. c.put_message.ensures x (omega arith) ∙ get_or-take c.loop-k.len c.loop-k.row x 0 d);
       kept = end_kept (walk_of f own) _ s g q;
     }

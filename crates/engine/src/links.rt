@@ -1,0 +1,44 @@
+// How many choices the links around a position have.
+ghost use Rattle.std.specs.Prelude.{◌≡◌, ℕ, ◌+◌, ◌<◌, pos};
+ghost use Rattle.problem.proofs.Reach.{reach};
+ghost use Rattle.network.specs.inner.Feeders.{toward_at, away_at};
+ghost use Rattle.engine.specs.inner.Words.{walk_of, top_of};
+
+use network::Feeder;
+use numbers::Units;
+
+// How many choices the link of position i has, less 1.
+pub fn width(feeder: &Feeder, i: usize) -> u16
+    requires { i < 32 }
+    ensures { result ≡ toward_at feeder.now i + away_at feeder.now i }
+{
+    feeder.position[i].toward.size() + feeder.position[i].away.size()
+}
+
+// The most units that the member at v can buy.
+pub fn top(feeder: &Feeder, v: usize) -> Units
+    requires { v < feeder.now.members }
+    ensures { result.0 ≡ pos (top_of feeder.now v) }
+{
+    let mut sum = feeder.position[v].away;
+    for k in 1..usize::from(feeder.members) {
+        if usize::from(feeder.position[k].parent) == v {
+            sum = sum + feeder.position[k].toward;
+        }
+    }
+    sum
+}
+
+// How many cells the row of v has.
+pub fn row_len(feeder: &Feeder, v: usize) -> usize
+    requires { v < feeder.now.members }
+    ensures { (own : ℕ → ℕ → ℕ) → result ≡ 1 + reach (walk_of feeder.now own) feeder.now.members v }
+{
+    let mut len = 1 + width(feeder, v);
+    for k in v + 1..usize::from(feeder.members) {
+        if usize::from(feeder.position[k].parent) == v {
+            len += width(feeder, k);
+        }
+    }
+    usize::from(len)
+}
