@@ -111,20 +111,6 @@ impl TryFrom<u8> for Kind {
     }
 }
 
-// 16 bits, low byte first.
-pub fn two(low: u8, high: u8) -> u16
-    ensures { result ≡ low + 256 * high }
-{
-    u16::from_le_bytes([low, high])
-}
-
-// 32 bits, low byte first.
-pub fn four(a: u8, b: u8, c: u8, d: u8) -> u32
-    ensures { result ≡ a + 256 * b + 65536 * c + 16777216 * d }
-{
-    u32::from_le_bytes([a, b, c, d])
-}
-
 // The bytes of record i.
 fn bytes_at(file: &[u8], i: usize) -> [u8; 8]
     requires { 8 * i + 8 ≤ length file.now }
