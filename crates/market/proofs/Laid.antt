@@ -8,12 +8,9 @@ use mathlib.Core.Option.{none}
 use Prim.Native.Nat.{ℕ, suc, ◌≤◌, ◌<◌}
 use native.Mathlib.Omega.{arith}
 use lib.Dec.{ltb}
-use lib.IntN.{pos, nat_abs}
+use lib.IntN.{pos}
 use lib.ListN.{length, get_or}
 use borrow.Author.Tests.{ne_eqb, ltb-true, ltb-false}
-use Rattle.numbers.specs.declared.Member.{Member}
-use Rattle.numbers.specs.declared.Units.{Units}
-use Rattle.numbers.specs.inner.Held.{member, units, units_in}
 use Rattle.problem.specs.Problem.{Link, Market, joins, walk}
 use Rattle.problem.proofs.Tree.{Within, Tree}
 use Rattle.problem.proofs.Links.{Ends, joins_ends}
@@ -23,12 +20,14 @@ use Rattle.problem.proofs.Steps.{Hop, at_pos, walk_walked, pos_one}
 use Rattle.problem.proofs.Places.{from_pos}
 use Rattle.problem.proofs.Arrange.{link_at, stops, parent, link_of, member_in_lem, rising}
 use Rattle.problem.proofs.Arrange as arrange
-use Rattle.problem.proofs.Cleared.{cap_both}
-use Rattle.network.specs.inner.Feeders.{Sound, member_at, parent_at}
+use Rattle.problem.proofs.Cleared.{cap_both, up_of, down_of}
+use Rattle.network.specs.declared.Feeder.{Feeder}
+use Rattle.network.specs.declared.Position.{Position}
+use Rattle.network.specs.inner.Positions.{no_position, position_at, toward_of, away_of, Sound}
 use Rattle.network.specs.inner.Laid.{Laid}
 use Rattle.records.specs.Market.{market_of}
 use Rattle.market.specs.Refusals.{file_refusal}
-use Rattle.market.specs.inner.Feeders.{reached_at, reached_from, capacity_of, places, laid_out, feeder_of}
+use Rattle.market.specs.inner.Feeders.{reached_at, reached_from, capacity_of, places, laid_at, positions_of, FeederOf}
 use Rattle.market.proofs.Top.{market_few}
 use Rattle.market.proofs.LinkRecords.{capacity_small}
 use Rattle.market.proofs.Filled.{places_held, places_blank}
@@ -70,43 +69,45 @@ held_or x n f P i few a b = go (either (ltb i n))
     go (inr e) = let l : n ≤ i = ltb-false i n e in subst P (sym (places_blank x 32 n f i l)) (b l)
 
 module _ (m : Market) (R : Tree m) (few : m.members ≤ 32) (small : (u v : ℕ) → capacity_of m.links u v ≤ 40) where
-  at : (i : ℕ) → i < m.members → member_at (feeder_of m) i ≡ arrange.member m i
-  unfolding feeder_of laid_out
-  at i l = ap (λ (u : Member). u.0) (places_held (member 0) 32 m.members (λ k. member (reached_at (walk m) k)) i (omega arith) l) ∙ member_at_lem m R i
+  -- the position i
+  seat : ℕ → Position
+  seat i = position_at (positions_of m) i
 
-  rises : (i : ℕ) → 1 ≤ i → parent_at (feeder_of m) i < i
-  unfolding feeder_of laid_out
-  rises i p = held_or 0 m.members _ (λ x. x < i) i few (λ l. omega (arith, parent_at_lem m R i l, rising m R i p)) (λ l. p)
+  -- what a place holds, or lies past the end
+  seat_or : (P : Position → Type 0) (i : ℕ) → (i < m.members → P (laid_at m i)) → (m.members ≤ i → P no_position) → P (seat i)
+  unfolding positions_of seat
+  seat_or P i a b = held_or no_position m.members (laid_at m) P i few a b
 
-  -- what a link carries, one way or the other
-  Carries : Units → Type 0
-  Carries u = (u.0 ≡ pos (nat_abs u.0)) × (nat_abs u.0 ≤ 40)
+  at : (i : ℕ) → i < m.members → (seat i).member.0 ≡ arrange.member m i
+  unfolding laid_at
+  at i l = seat_or (λ p. p.member.0 ≡ arrange.member m i) i (λ h. member_at_lem m R i) (λ h. absurd (omega arith))
 
-  carries : (g : ℕ → ℕ) → ((i : ℕ) → g i ≤ 40) → (i : ℕ) → Carries (get_or (places (units (pos 0)) 32 m.members (λ k. units (pos (g k)))) i (units (pos 0)))
-  unfolding Carries
-  carries g h i = held_or (units (pos 0)) m.members _ Carries i few (λ l. (refl, h i)) (λ l. (refl, omega arith))
+  from : (i : ℕ) → (seat i).parent ≡ parent m i
+  unfolding laid_at
+  from i = seat_or (λ p. p.parent ≡ parent m i) i (parent_at_lem m R i) (λ l. sym (from_past (stops m) i (omega (arith, full m R))))
 
   nothing_at_first : capacity_of m.links (reached_at (walk m) 0) (reached_from (walk m) 0) ≡ 0
   nothing_at_first =
       let from : parent m 0 ≡ 0 = omega (arith, from_le m.links (suc m.members) (stops m) (walk_walked m.links (suc m.members) (suc m.members)) 0) in
       ap₂ (capacity_of m.links) (member_at_lem m R 0) (from_at m R 0 R.some_member ∙ ap (arrange.member m) from) ∙ alone m.members m.links R.within (arrange.member m 0)
 
-  nothing_first : (g : ℕ → ℕ) → g 0 ≡ 0 → nat_abs (units_in (places (units (pos 0)) 32 m.members (λ k. units (pos (g k)))) 0) ≡ 0
-  nothing_first g e = held_or (units (pos 0)) m.members _ (λ u. nat_abs u.0 ≡ 0) 0 few (λ l. e) (λ l. refl)
-
-  feeder_sound : Sound (feeder_of m)
-  unfolding feeder_of laid_out Carries
-  feeder_sound = record {
+  -- the positions of a market on a tree are sound
+  pub positions_sound : Sound m.members (positions_of m)
+  unfolding laid_at seat
+  positions_sound = record {
     some = R.some_member;
     few = few;
     known = λ i l. let b = member_in_lem m R i in (omega (arith, at i l, b.0), omega (arith, at i l, b.1));
     apart = λ i k li lk e.
         pos_one m.links (suc m.members) (stops m) (walk_walked m.links (suc m.members) (suc m.members)) i k (omega (arith, full m R)) (omega (arith, full m R))
         (sym (at i li) ∙ e ∙ at k lk);
-    rising = rises;
-    first = (nothing_first _ nothing_at_first, nothing_first _ (capacity_back m.links _ _ ∙ nothing_at_first));
-    toward = carries _ (λ i. small _ _);
-    away = carries _ (λ i. small _ _);
+    rising = λ i p. omega (arith, from i, rising m R i p);
+    first = (
+      seat_or (λ p. toward_of p ≡ 0) 0 (λ l. nothing_at_first) (λ l. refl),
+      seat_or (λ p. away_of p ≡ 0) 0 (λ l. capacity_back m.links _ _ ∙ nothing_at_first) (λ l. refl),
+    );
+    toward = λ i. seat_or (λ p. (p.toward.0 ≡ pos (toward_of p)) × (toward_of p ≤ 40)) i (λ l. (refl, small _ _)) (λ l. (refl, omega arith));
+    away = λ i. seat_or (λ p. (p.away.0 ≡ pos (away_of p)) × (away_of p ≤ 40)) i (λ l. (refl, small _ _)) (λ l. (refl, omega arith));
   }
 
   -- ---- past the last position stands what stands at the first
@@ -117,22 +118,28 @@ module _ (m : Market) (R : Tree m) (few : m.members ≤ 32) (small : (u v : ℕ)
       ∙ ap₂ (capacity_of m.links) (at_past (stops m) i (omega (arith, full m R))) (ap (arrange.member m) (from_past (stops m) i (omega (arith, full m R))) ∙ at_first (stops m))
       ∙ alone m.members m.links R.within 1
 
-  carried_is : (g : ℕ → ℕ) → ((i : ℕ) → i < m.members → g i ≡ (link_at m.links (link_of m i)).capacity)
-      → (i : ℕ) → nat_abs (units_in (places (units (pos 0)) 32 m.members (λ k. units (pos (g k)))) i) ≡ (link_at m.links (link_of m i)).capacity
-  carried_is g h i = held_or (units (pos 0)) m.members _ (λ u. nat_abs u.0 ≡ (link_at m.links (link_of m i)).capacity) i few (h i) (λ l. sym (no_link i l))
+  toward_is : (i : ℕ) → toward_of (seat i) ≡ up_of m i
+  unfolding laid_at
+  toward_is i = seat_or (λ p. toward_of p ≡ (link_at m.links (link_of m i)).capacity) i (capacity_at m R i) (λ l. sym (no_link i l)) ∙ sym (cap_both m i).0
 
-  pub feeder_laid : Laid m (feeder_of m)
-  unfolding feeder_of laid_out
-  feeder_laid = record {
-    tree = R;
-    sound = feeder_sound;
-    members = refl;
-    member_is = at;
-    parent_is = λ i. held_or 0 m.members _ (λ x. x ≡ parent m i) i few (parent_at_lem m R i) (λ l. sym (from_past (stops m) i (omega (arith, full m R))));
-    toward_is = λ i. carried_is _ (capacity_at m R) i ∙ sym (cap_both m i).0;
-    away_is = λ i. carried_is _ (λ k l. capacity_back m.links _ _ ∙ capacity_at m R k l) i ∙ sym (cap_both m i).1;
-  }
+  away_is : (i : ℕ) → away_of (seat i) ≡ down_of m i
+  unfolding laid_at
+  away_is i =
+      seat_or (λ p. away_of p ≡ (link_at m.links (link_of m i)).capacity) i (λ l. capacity_back m.links _ _ ∙ capacity_at m R i l) (λ l. sym (no_link i l)) ∙ sym (cap_both m i).1
 
-pub file_laid : (f : List ℕ) → file_refusal f ≡ none → Laid (market_of f) (feeder_of (market_of f))
+  pub feeder_laid : (f : Feeder) → FeederOf m f → Laid m f
+  unfolding seat
+  feeder_laid f F =
+      let same : (i : ℕ) → position_at f.position i ≡ seat i = λ i. ap (λ (ps : List Position). position_at ps i) F.position in
+      record {
+        tree = R;
+        members = F.members;
+        member_is = λ i l. ap (λ (p : Position). p.member.0) (same i) ∙ at i (omega (arith, l, F.members));
+        parent_is = λ i. ap (λ (p : Position). p.parent) (same i) ∙ from i;
+        toward_is = λ i. ap toward_of (same i) ∙ toward_is i;
+        away_is = λ i. ap away_of (same i) ∙ away_is i;
+      }
+
+pub file_laid : (f : List ℕ) → file_refusal f ≡ none → (x : Feeder) → FeederOf (market_of f) x → Laid (market_of f) x
 unfolding market_of
 file_laid f e = feeder_laid (market_of f) (sound_tree f e) (market_few f) (capacity_small f)

@@ -1,29 +1,26 @@
 -- The links of a file's records, from a record on, and the numbers that they have. Assumes nothing.
-use mathlib.Core.Path.{◌≡◌, refl, sym, ap, ◌∙◌, subst}
+use mathlib.Core.Path.{◌≡◌, refl, ap, ◌∙◌, subst}
 use mathlib.Core.Bool.{Bool, true, false, cond}
 use mathlib.Core.List.{List, [], ◌∷◌}
 use Prim.Native.Nat.{ℕ, ◌+◌, ◌-◌, ◌/◌, ◌≤◌, ◌<◌}
 use native.Mathlib.Nat.{le_refl, sub-zero}
 use native.Mathlib.Omega.{arith}
 use lib.ListN.{length}
-use lib.IntN.{nat_abs}
+use lib.IntN.{pos, nat_abs}
 use Rattle.numbers.specs.declared.Member.{Member}
 use Rattle.numbers.specs.declared.Units.{Units}
 use Rattle.problem.specs.Problem.{Link, joins}
 use Rattle.problem.proofs.Tree.{Within}
-use Rattle.records.specs.declared.Reading.{Reading}
+use Rattle.std.specs.Prelude.{Ok}
+use Rattle.records.specs.declared.Record.{Record}
 use Rattle.records.specs.Records.{Entry, entry_at, entries_from, entries}
 use Rattle.records.specs.Records.Entry.{link, offer, begins, fault}
 use Rattle.records.specs.Market.{members_of, links_of}
 use Rattle.records.specs.inner.Cases.{reading_of}
-use Rattle.records.proofs.Entries.{rest, ended, link_is, not_link, LinkFits, Fits, entry_fits, by_record}
+use Rattle.records.proofs.Entries.{rest, ended, link_is, link_units, LinkFits, Fits, entry_fits, by_record}
 use Rattle.market.specs.inner.Feeders.{capacity_of}
 
 -- ---- the links from record i on, of n records
-
--- the link that is read
-abbrev pub link_read : Member → Member → Units → Link
-link_read a b c = record { a = a.0; b = b.0; capacity = nat_abs c.0 }
 
 pub links_other : (e : Entry) (es : List Entry) → ((l : Link) → e ≡ link l → ⊥) → links_of (e ∷ es) ≡ links_of es
 unfolding links_of
@@ -40,20 +37,24 @@ pub links_none : (f : List ℕ) (i n : ℕ) → n ≤ i → links_of (entries_fr
 unfolding links_of
 links_none f i n h = ap links_of (ended f i n h)
 
-module _ (f : List ℕ) (i n : ℕ) (r : Reading) (h : i < n) (is : r ≡ reading_of (entry_at f i)) where
-  pub links_skip : ((a b : Member) (c : Units) → r ≡ Reading.Link a b c → ⊥) → links_of (entries_from f i (n - i)) ≡ links_of (entries_from f (i + 1) (n - (i + 1)))
-  links_skip t = ap links_of (rest f i n h) ∙ links_other (entry_at f i) (entries_from f (i + 1) (n - (i + 1))) (not_link r (entry_at f i) is t)
+module _ (f : List ℕ) (i n : ℕ) (h : i < n) where
+  pub links_skip : ((l : Link) → entry_at f i ≡ link l → ⊥) → links_of (entries_from f i (n - i)) ≡ links_of (entries_from f (i + 1) (n - (i + 1)))
+  links_skip d = ap links_of (rest f i n h) ∙ links_other (entry_at f i) (entries_from f (i + 1) (n - (i + 1))) d
 
-  module _ (a b : Member) (c : Units) (e : r ≡ Reading.Link a b c) where
-    pub link_here : entry_at f i ≡ link (link_read a b c)
-    link_here = link_is (entry_at f i) a b c (sym is ∙ e)
+  pub links_here : (l : Link) → entry_at f i ≡ link l → links_of (entries_from f i (n - i)) ≡ l ∷ links_of (entries_from f (i + 1) (n - (i + 1)))
+  unfolding links_of
+  links_here l e = ap links_of (rest f i n h) ∙ ap (λ (x : Entry). links_of (x ∷ entries_from f (i + 1) (n - (i + 1)))) e
 
-    pub links_here : links_of (entries_from f i (n - i)) ≡ link_read a b c ∷ links_of (entries_from f (i + 1) (n - (i + 1)))
-    unfolding links_of
-    links_here = ap links_of (rest f i n h) ∙ ap (λ (x : Entry). links_of (x ∷ entries_from f (i + 1) (n - (i + 1)))) link_here
+-- ---- record i is read as a link
+module _ (f : List ℕ) (i : ℕ) (a b : Member) (c : Units) (is : reading_of (entry_at f i) ≡ Ok (Record.Link a b c)) where
+  pub read_link : entry_at f i ≡ link (record { a = a.0; b = b.0; capacity = nat_abs c.0 })
+  read_link = link_is (entry_at f i) a b c is
 
-    pub link_ranges : LinkFits (link_read a b c)
-    link_ranges = subst Fits link_here (entry_fits f i)
+  pub read_units : c.0 ≡ pos (nat_abs c.0)
+  read_units = link_units (entry_at f i) a b c is
+
+  pub read_fits : LinkFits (record { a = a.0; b = b.0; capacity = nat_abs c.0 })
+  read_fits = subst Fits read_link (entry_fits f i)
 
 -- ---- members are numbered from 1 to n, and a link has a < b
 

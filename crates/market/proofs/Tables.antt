@@ -1,15 +1,21 @@
 -- The tally of a file's members and offers, record by record, and the lowest member whose count is outside. Assumes nothing.
 use mathlib.Core.Path.{◌≡◌, refl, sym, ap, ◌∙◌, subst}
-use mathlib.Core.Bool.{Bool, true, false, cond, ◌||◌}
+use mathlib.Core.Bool.{Bool, true, false, cond}
 use mathlib.Core.List.{List, [], ◌∷◌}
 use mathlib.Core.Logic.{◌⊎◌, inl, inr}
 use Prim.Native.Nat.{ℕ, zero, suc, ◌+◌, ◌-◌, ◌/◌, ◌≤◌, ◌<◌, max, zero-le}
 use native.Mathlib.Nat.{sub-zero}
 use native.Mathlib.Omega.{arith}
+use native.Mathlib.Nat.{not-suc-le-zero}
+use native.Mathlib.Numerals.{add-one}
 use lib.Dec.{eqb, ltb}
-use lib.ListN.{length, get_or, set, replicate, get_or-replicate}
+use lib.ListN.{length, get_or, set, take, replicate, get_or-replicate}
+use Rattle.std.specs.Prelude.{not, Ok, Err, Some, None, MatchOption, position}
+use Rattle.std.specs.List.{position_or_len}
+use Rattle.std.proofs.lemmas.List.{length-take-le}
+use Rattle.std.proofs.Math.Option.{none, some}
+use Rattle.std.proofs.Math.Option as Math
 use lib.Seq.{get_or-set_same, get_or-set_other}
-use borrow.Author.Tests.{ne_eqb, lt-ltb, le-ltb}
 use Rattle.numbers.specs.declared.Member.{Member}
 use Rattle.numbers.specs.declared.Units.{Units}
 use Rattle.numbers.specs.inner.Held.{member}
@@ -17,16 +23,17 @@ use Rattle.problem.proofs.Count.{same?}
 use Rattle.records.specs.Records.{Entry, entry_at, entries_from, entries}
 use Rattle.records.specs.Records.Entry.{link, offer, begins, fault}
 use Rattle.records.specs.Market.{members_of, offers_of, market_of}
+use Rattle.problem.specs.Problem.{lowest}
 use Rattle.records.specs.declared.Terms.{Terms}
-use Rattle.records.specs.declared.Reading.TheVariants as Reading
+use Rattle.records.specs.declared.Record.{Record}
+use Rattle.records.specs.declared.Rule.{Rule}
 use Rattle.records.specs.inner.Cases.{reading_of}
+use Rattle.records.specs.Refusals.{place_if}
 use Rattle.records.proofs.Entries.{rest, ended, link_is, offer_is, begins_is, fault_is, MemberFits, Fits, entry_fits}
 use Rattle.market.specs.Refusals.{lowest_member, offers_by, without, too_many}
 use Rattle.market.specs.declared.offers.Tally.{Tally}
-use Rattle.market.specs.declared.Place.{Place}
-use Rattle.market.specs.inner.Cases.{place_of}
 use Rattle.market.specs.inner.Tallies.{Offered, Counts, Tallied, outside}
-use Rattle.market.proofs.Passes.{members_same}
+use borrow.Author.Tests.{ne_eqb, le-ltb}
 use Rattle.market.proofs.Top.{members_few, members_apart}
 
 -- one more for member m
@@ -43,7 +50,7 @@ added by m i j low high is = go (same? (suc j) m)
 -- ---- one record more
 
 -- an offer's member, as it is read
-pub offer_member : (f : List ℕ) (i : ℕ) (m : Member) (t : Terms) → reading_of (entry_at f i) ≡ Reading.Offer m t → MemberFits m.0
+pub offer_member : (f : List ℕ) (i : ℕ) (m : Member) (t : Terms) → reading_of (entry_at f i) ≡ Ok (Record.Offer m t) → MemberFits m.0
 offer_member f i m t is = (subst Fits (offer_is (entry_at f i) m t is) (entry_fits f i)).member
 
 -- r is t with a record that names member m and offers nothing
@@ -51,28 +58,28 @@ abbrev Named : ℕ → Tally → Tally → Type 0
 Named m t r = (r.members.0 ≡ max t.members.0 m) × (r.offers ≡ t.offers) × (r.by ≡ t.by)
 
 module _ (e : Entry) (t : Tally) where
-  pub counts_link : (x r : Tally) (a b : Member) (c : Units) → reading_of e ≡ Reading.Link a b c → Named a.0 t x → Named b.0 x r → Counts e t r
+  pub counts_link : (x r : Tally) (a b : Member) (c : Units) → reading_of e ≡ Ok (Record.Link a b c) → Named a.0 t x → Named b.0 x r → Counts e t r
   unfolding members_of offers_of offers_by
   counts_link x r a b c is g h =
       subst (λ (k : Entry). Counts k t r) (sym (link_is e a b c is))
       (record { members = omega arith; offers = omega arith; by = λ j l. ap (λ (k : List ℕ). get_or k j 0) (h.2 ∙ g.2) ∙ omega arith })
 
-  pub counts_offer : (r : Tally) (m : Member) (u : Terms) → reading_of e ≡ Reading.Offer m u → Offered m.0 t r → Counts e t r
+  pub counts_offer : (r : Tally) (m : Member) (u : Terms) → reading_of e ≡ Ok (Record.Offer m u) → Offered m.0 t r → Counts e t r
   unfolding members_of offers_of offers_by
   counts_offer r m u is h =
       subst (λ (k : Entry). Counts k t r) (sym (offer_is e m u is))
       (record { members = omega (arith, h.members); offers = omega (arith, h.offers); by = λ j l. omega (arith, h.by j l) })
 
-  pub counts_begins : (r : Tally) (m : Member) → reading_of e ≡ Reading.Begins m → Named m.0 t r → Counts e t r
+  pub counts_begins : (r : Tally) (m : Member) → reading_of e ≡ Ok (Record.Begins m) → Named m.0 t r → Counts e t r
   unfolding members_of offers_of offers_by
   counts_begins r m is h =
       subst (λ (k : Entry). Counts k t r) (sym (begins_is e m is))
       (record { members = omega arith; offers = omega arith; by = λ j l. ap (λ (k : List ℕ). get_or k j 0) h.2 ∙ omega arith })
 
-  pub counts_fault : (k : ℕ) → reading_of e ≡ Reading.Fault k → Counts e t t
+  pub counts_fault : Fits e → (k : Rule) → reading_of e ≡ Err k → Counts e t t
   unfolding members_of offers_of offers_by
-  counts_fault k is =
-      subst (λ (x : Entry). Counts x t t) (sym (fault_is e k is)) (record { members = omega arith; offers = omega arith; by = λ j l. omega arith })
+  counts_fault fits k is =
+      subst (λ (x : Entry). Counts x t t) (sym (fault_is e fits k is)) (record { members = omega arith; offers = omega arith; by = λ j l. omega arith })
 
 -- a record's offers, at most one, and those of the records after it
 offers_apart : (e : Entry) (es : List Entry) → (length (offers_of (e ∷ es)) ≡ length (offers_of (e ∷ [])) + length (offers_of es)) × (length (offers_of (e ∷ [])) ≤ 1)
@@ -134,47 +141,52 @@ module _ (f : List ℕ) (n i : ℕ) (t : Tally) (T : Tallying f n i t) where
         offers = sym (T.offers ∙ ap (λ (x : List Entry). t.offers + length (offers_of x)) all ∙ omega arith);
         by = λ j l. sym (T.by j l ∙ ap (λ (x : List Entry). get_or t.by j 0 + offers_by (suc j) (offers_of x)) all ∙ omega arith);
         few = λ j l. omega (arith, T.each j l);
+        high = omega (arith, T.members, members_few f);
       }
 
 -- ---- the lowest member whose count is outside
 
-module _ (by : List ℕ) (least most j : ℕ) where
-  count : (b : Bool) → (ltb (get_or by j 0) least || ltb most (get_or by j 0)) ≡ b → outside by least most (suc j) ≡ b
-  unfolding outside
-  count b e = let at : j ≡ suc j - 1 = omega arith in subst (λ (i : ℕ). (ltb (get_or by i 0) least || ltb most (get_or by i 0)) ≡ b) at e
-
-  pub too_few : get_or by j 0 < least → outside by least most (suc j) ≡ true
-  too_few h = count true (rw (lt-ltb _ least h))
-
-  module _ (l : least ≤ get_or by j 0) where
-    pub too_high : most < get_or by j 0 → outside by least most (suc j) ≡ true
-    too_high h = count true (rw (le-ltb _ least l, lt-ltb most _ h))
-
-    pub inside : get_or by j 0 ≤ most → outside by least most (suc j) ≡ false
-    inside h = count false (rw (le-ltb _ least l, le-ltb most _ h))
-
-outside_is : (p : ℕ → Bool) (least most : ℕ) → ((x : ℕ) → x ≤ 65535 → p x ≡ (ltb x least || ltb most x)) → (f : List ℕ) (t : Tally) → Tallied (entries f) t
-    → lowest_member (λ j. p (offers_by j (offers_of (entries f)))) (members_of (entries f)) ≡ lowest_member (outside t.by least most) t.members.0
-unfolding outside
-outside_is p least most h f t T =
-    ap (lowest_member (λ j. p (offers_by j (offers_of (entries f))))) (sym T.members)
-    ∙ members_same _ _ t.members.0 (λ k l. go k (omega (arith, T.members, members_few f)))
+-- the first of n places that passes
+first_is : (p q : ℕ → Bool) (n : ℕ) (xs : List ℕ) → n ≤ length xs → ((k : ℕ) → k < n → p (get_or xs k 0) ≡ q k) → position_or_len p (take n xs) ≡ lowest q n
+unfolding lowest
+first_is p q zero xs h e = refl
+first_is p q (suc n) [] h e = absurd (not-suc-le-zero h)
+first_is p q (suc n) (x ∷ xs) h e = rw (e 0 (omega arith)) (go (q 0) (first_is p (λ k. q (suc k)) n xs (omega arith) (λ k l. e (suc k) (omega arith))))
   where
-    go : (k : ℕ) → k < 32 → p (offers_by (suc k) (offers_of (entries f))) ≡ (ltb (get_or t.by (suc k - 1) 0) least || ltb most (get_or t.by (suc k - 1) 0))
-    go k l =
-        let at : k ≡ suc k - 1 = omega arith in
-        subst (λ (i : ℕ). p (offers_by (suc k) (offers_of (entries f))) ≡ (ltb (get_or t.by i 0) least || ltb most (get_or t.by i 0))) at
-        (ap p (sym (T.by k l)) ∙ h (get_or t.by k 0) (T.few k l))
+    go : (b : Bool) → position_or_len p (take n xs) ≡ lowest (λ k. q (suc k)) n → cond (not b) (1 + position_or_len p (take n xs)) 0 ≡ cond b 0 (suc (lowest (λ k. q (suc k)) n))
+    go true ih = refl
+    go false ih = omega (arith, ih)
 
-no_count : (x : ℕ) → x ≤ 65535 → eqb x 0 ≡ (ltb x 1 || ltb 65535 x)
+no_count : (x : ℕ) → x ≤ 65535 → outside 1 65535 x ≡ eqb x 0
 no_count zero h = refl
 no_count (suc x) h = rw (ne_eqb (suc x) 0 (λ q. omega arith), le-ltb (suc x) 1 (omega arith), le-ltb 65535 (suc x) h)
 
-module _ (f : List ℕ) (t : Tally) (T : Tallied (entries f) t) where
-  pub without_is : (r : Place) → r ≡ place_of (lowest_member (outside t.by 1 65535) t.members.0) → r ≡ place_of (without (market_of f))
-  unfolding without market_of
-  without_is r e = e ∙ sym (ap place_of (outside_is (λ k. eqb k 0) 1 65535 no_count f t T))
+module _ (f : List ℕ) (t : Tally) (T : Tallied (entries f) t) (wide : length t.by ≡ 32) where
+  -- p is the test that a count is outside
+  module _ (p : ℕ → Bool) (least most : ℕ) (same : (x : ℕ) → x ≤ 65535 → outside least most x ≡ p x) where
+    -- the lowest of the file's members whose count passes
+    abbrev pub lowest_of : Math.Option ℕ
+    lowest_of = lowest_member (λ j. p (offers_by j (offers_of (entries f)))) (members_of (entries f))
 
-  pub too_many_is : (r : Place) → r ≡ place_of (lowest_member (outside t.by 0 64) t.members.0) → r ≡ place_of (too_many (market_of f))
+    pub count_is : MatchOption (position (outside least most) (take t.members.0 t.by)) (lowest_of ≡ none) (λ i. lowest_of ≡ some (i + 1))
+    unfolding lowest_member place_if
+    count_is =
+        let n = t.members.0 in
+        let q = λ (i : ℕ). p (offers_by (suc i) (offers_of (entries f))) in
+        let few : n ≤ 32 = T.high in
+        let first : position_or_len (outside least most) (take n t.by) ≡ lowest q n =
+        first_is (outside least most) q n t.by (omega arith) (λ k l. same _ (T.few k (omega arith)) ∙ ap p (T.by k (omega arith))) in
+        let long : n ≤ length t.by = omega arith in
+        rw (← T.members, first, length-take-le) (go (lowest q n) (ltb (lowest q n) n))
+      where
+        go : (k : ℕ) (b : Bool) → MatchOption (cond b (Some k) None) (place_if b (suc k) ≡ none) (λ i. place_if b (suc k) ≡ some (i + 1))
+        go k true = ap some (sym (add-one k))
+        go k false = refl
+
+  pub without_is : MatchOption (position (outside 1 65535) (take t.members.0 t.by)) (without (market_of f) ≡ none) (λ i. without (market_of f) ≡ some (i + 1))
+  unfolding without market_of
+  without_is = count_is (λ k. eqb k 0) 1 65535 no_count
+
+  pub too_many_is : MatchOption (position (outside 0 64) (take t.members.0 t.by)) (too_many (market_of f) ≡ none) (λ i. too_many (market_of f) ≡ some (i + 1))
   unfolding too_many market_of
-  too_many_is r e = e ∙ sym (ap place_of (outside_is (λ k. ltb 64 k) 0 64 (λ x h. rw (le-ltb x 0 zero-le)) f t T))
+  too_many_is = count_is (λ k. ltb 64 k) 0 64 (λ x h. rw (le-ltb x 0 zero-le) refl)

@@ -1,5 +1,6 @@
 -- The order of checking: what each check's answer makes of the file's refusal. Assumes nothing.
-use mathlib.Core.Path.{◌≡◌, refl, sym, ap, ap₂, ◌∙◌}
+use Rattle.std.specs.Prelude.{Result, Ok, Err}
+use mathlib.Core.Path.{◌≡◌, refl, sym, ap, ◌∙◌}
 use mathlib.Core.Bool.{Bool, true, false}
 use mathlib.Core.List.{List, ◌∷◌}
 use mathlib.Core.Option.{Option, none, some}
@@ -9,77 +10,56 @@ use lib.Dec.{eqb}
 use lib.ListN.{length}
 use borrow.Author.Tests.{eq-eqb, ne_eqb}
 use Rattle.numbers.proofs.Tests.{true_false}
-use Rattle.problem.specs.Problem.{Link, Offer, Market, walk}
+use Rattle.problem.specs.Problem.{Link, walk}
 use Rattle.records.specs.Records.{Entry, entries}
 use Rattle.records.specs.Records.Entry.{link, offer, begins, fault}
 use Rattle.records.specs.Refusals.{Refusal, refusal, ◌otherwise◌, place_if, unsound}
 use Rattle.records.specs.Market.{members_of, links_of, offers_of, market_of}
-use Rattle.records.specs.inner.Cases.{verdict_of}
-use Rattle.records.specs.declared.Verdict.{Verdict}
+use Rattle.records.specs.inner.Cases.{rule_of, refusal_of, unless, verdict_of}
+use Rattle.records.specs.declared.Refusal as Code
+use Rattle.network.specs.declared.Feeder.{Feeder}
 use Rattle.records.proofs.Entries.{Fits, by_record}
-use Rattle.market.specs.declared.Checked.{Checked}
-use Rattle.market.specs.declared.Place.{Place}
 use Rattle.market.specs.Refusals.{no_offer, apart, from10, from5, file_refusal}
-use Rattle.market.specs.inner.Cases.{nowhere, place_of}
-use Rattle.market.specs.inner.Feeders.{feeder_of, checked, checked_of}
+use Rattle.market.specs.inner.Feeders.{laid_at, positions_of, FeederOf, Finds}
 use Rattle.market.specs.inner.Lines.{market_on}
-
--- ---- what an answer says
-
-pub place_some : (o : Option ℕ) (r : Place) (p : ℕ) → r ≡ place_of o → r ≡ Place.At p → o ≡ some p
-unfolding place_of
-place_some none r p is e = cc (sym is ∙ e)
-place_some (some q) r p is e = let s : q ≡ p = cc (sym is ∙ e) in ap some s
-
-pub place_none : (o : Option ℕ) (r : Place) → r ≡ place_of o → r ≡ nowhere → o ≡ none
-unfolding place_of
-place_none none r is e = refl
-place_none (some q) r is e = let z : ◌≡◌ {A = ℕ} 0 1 = cc (sym is ∙ e) in absurd (omega arith)
-
-pub verdict_some : (o : Option Refusal) (v : Verdict) (k p : ℕ) → v ≡ verdict_of o → v ≡ Verdict.Refused k p → o ≡ some (record { number = k; place = p })
-unfolding verdict_of
-verdict_some none v k p is e = cc (sym is ∙ e)
-verdict_some (some r) v k p is e =
-    let s : r.number ≡ k = cc (sym is ∙ e) in
-    let t : r.place ≡ p = cc (sym is ∙ e) in
-    ap₂ {C = Option Refusal} (λ (x y : ℕ). some (record { number = x; place = y })) s t
-
-pub verdict_none : (o : Option Refusal) (v : Verdict) → v ≡ verdict_of o → ((k p : ℕ) → v ≡ Verdict.Refused k p → ⊥) → o ≡ none
-unfolding verdict_of
-verdict_none none v is t = refl
-verdict_none (some r) v is t = absurd (t r.number r.place is)
 
 -- ---- the first that applies: a check decides, or leaves it to the rest
 
-module _ (m : Market) (k : ℕ) (o : Option ℕ) (later : Option Refusal) (x : Checked) where
-  pub decided : (p : ℕ) → o ≡ some p → ((m : Market) → x ≡ checked m (some (record { number = k; place = p }))) → x ≡ checked m (refusal k o otherwise later)
-  unfolding ◌otherwise◌ refusal
-  decided p e h = h m ∙ sym (ap (λ (q : Option ℕ). checked m (refusal k q otherwise later)) e)
+pub decided : (k : ℕ) (o : Option ℕ) (later : Option Refusal) (p : ℕ) → o ≡ some p → verdict_of (refusal k o otherwise later) ≡ Err (record { rule = rule_of k; place = p })
+unfolding ◌otherwise◌ refusal unless refusal_of
+decided k o later p e = rw e refl
 
-  pub left_over : o ≡ none → x ≡ checked m later → x ≡ checked m (refusal k o otherwise later)
-  unfolding ◌otherwise◌ refusal
-  left_over e h = h ∙ sym (ap (λ (q : Option ℕ). checked m (refusal k q otherwise later)) e)
+pub left_over : (k : ℕ) (o : Option ℕ) (later : Option Refusal) → o ≡ none → refusal k o otherwise later ≡ later
+unfolding ◌otherwise◌ refusal
+left_over k o later e = rw e refl
 
-  -- by the place that a check gives
-  pub found : (r : Place) (p : ℕ) → r ≡ place_of o → r ≡ Place.At p → ((m : Market) → x ≡ checked m (some (record { number = k; place = p }))) → x ≡ checked m (refusal k o otherwise later)
-  found r p is e = decided p (place_some o r p is e)
+pub last_decided : (k : ℕ) (o : Option ℕ) (p : ℕ) → o ≡ some p → verdict_of (refusal k o) ≡ Err (record { rule = rule_of k; place = p })
+unfolding refusal unless refusal_of
+last_decided k o p e = rw e refl
 
-  pub not_found : (r : Place) → r ≡ place_of o → r ≡ nowhere → x ≡ checked m later → x ≡ checked m (refusal k o otherwise later)
-  not_found r is e = left_over (place_none o r is e)
-
-pub refused_is : (k : ℕ) (o : Option ℕ) (p q : ℕ) → p ≡ q → o ≡ some q → some (record { number = k; place = p }) ≡ refusal k o
+pub last_left : (k : ℕ) (o : Option ℕ) → o ≡ none → refusal k o ≡ none
 unfolding refusal
-refused_is k o p q e h = ap {B = Option Refusal} (λ (x : ℕ). some (record { number = k; place = x })) e ∙ sym (ap (refusal k) h)
+last_left k o e = rw e refl
 
 -- refusals 1 to 4, 13 and 14, by the verdict on the records
-module _ (f : List ℕ) (v : Verdict) (is : v ≡ verdict_of (unsound f)) where
-  pub read_fault : (k p : ℕ) → v ≡ Verdict.Refused k p → checked (market_of f) (some (record { number = k; place = p })) ≡ checked_of f
-  unfolding checked_of file_refusal ◌otherwise◌
-  read_fault k p e = sym (ap (λ (q : Option Refusal). checked (market_of f) (q otherwise from5 f)) (verdict_some (unsound f) v k p is e))
+pub records_sound : (o : Option Refusal) → Ok tt ≡ verdict_of o → o ≡ none
+unfolding unless
+records_sound none e = refl
+records_sound (some f) e = cc (e)
 
-  pub read_sound : unsound f ≡ none → checked (market_of f) (from5 f) ≡ checked_of f
-  unfolding checked_of file_refusal ◌otherwise◌
-  read_sound e = sym (ap (λ (q : Option Refusal). checked (market_of f) (q otherwise from5 f)) e)
+pub records_refused : (o later : Option Refusal) (r : Code.Refusal) → Err r ≡ verdict_of o → verdict_of (o otherwise later) ≡ Err r
+unfolding ◌otherwise◌ unless
+records_refused none later r e = cc (e)
+records_refused (some f) later r e = sym e
+
+pub records_left : (f : List ℕ) → unsound f ≡ none → file_refusal f ≡ from5 f
+unfolding file_refusal ◌otherwise◌
+records_left f e = rw e refl
+
+-- what the last check finds
+pub finds_last : {A : Type 0} {P Q : A → Type 0} (r : Result A Code.Refusal) (first last later : Option Refusal) → first ≡ last → ((x : A) → P x → Q x) → Finds P last later r → Finds Q first later r
+finds_last (Ok x) first last later e g h = (e ∙ h.0, g x h.1)
+finds_last (Err r) first last later e g h = ap verdict_of e ∙ h
 
 -- refusal 5, by the number of offers
 module _ (f : List ℕ) (k : ℕ) (is : k ≡ length (offers_of (entries f))) where
@@ -92,17 +72,13 @@ module _ (f : List ℕ) (k : ℕ) (is : k ≡ length (offers_of (entries f))) wh
   some_offers d = ap (λ (b : Bool). place_if b 0) (ne_eqb (length (offers_of (entries f))) 0 (λ e. d (is ∙ e)))
 
 -- refusal 10 does not look at the offers, nor does the feeder
-other_offers : (n : ℕ) (ls : List Link) (os : List Offer) (o : Option Refusal) → checked (market_on n ls) o ≡ checked (record { members = n; links = ls; offers = os }) o
-unfolding checked feeder_of walk
-other_offers n ls os none = refl
-other_offers n ls os (some r) = refl
-
-pub only_10 : (f : List ℕ) (n : ℕ) (ls : List Link) → n ≡ members_of (entries f) → ls ≡ links_of (entries f)
-    → checked (market_on n ls) (refusal 10 (apart (market_on n ls))) ≡ checked (market_of f) (from10 f)
+pub only_10 : (f : List ℕ) (n : ℕ) (ls : List Link) → n ≡ members_of (entries f) → ls ≡ links_of (entries f) → refusal 10 (apart (market_on n ls)) ≡ from10 f
 unfolding apart market_of
-only_10 f n ls p q =
-    ap₂ (λ (k : ℕ) (xs : List Link). checked (market_on k xs) (refusal 10 (apart (market_on k xs)))) p q
-    ∙ other_offers (members_of (entries f)) (links_of (entries f)) (offers_of (entries f)) (refusal 10 (apart (market_on (members_of (entries f)) (links_of (entries f)))))
+only_10 f n ls p q = rw (p, q) refl
+
+pub same_feeder : (f : List ℕ) (n : ℕ) (ls : List Link) → n ≡ members_of (entries f) → ls ≡ links_of (entries f) → (x : Feeder) → FeederOf (market_on n ls) x → FeederOf (market_of f) x
+unfolding positions_of laid_at walk market_of
+same_feeder f n ls p q x F = record { members = F.members ∙ p; position = F.position ∙ rw (p, q) refl }
 
 -- ---- a file with an offer has a member
 

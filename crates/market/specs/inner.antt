@@ -1,4 +1,3 @@
-pub mod Cases
 pub mod Feeders
 pub mod Lines
 pub mod Tallies

@@ -1,15 +1,15 @@
 // What a file's records say of its members and offers: one pass counts them, and refusals 5 to 7 are read from the counts. A
 // record that is at fault counts for nothing here.
-ghost use Rattle.std.specs.Prelude.{◌≡◌, ℕ, ◌+◌, ◌*◌, ◌<◌, ◌≤◌, max, length, get_or};
+ghost use Rattle.std.specs.Prelude.{◌≡◌, ℕ, ◌+◌, ◌*◌, ◌<◌, ◌≤◌, max, length, get_or, take, position, IfSome};
 ghost use Rattle.records.specs.Records.{entry_at, entries};
 ghost use Rattle.records.specs.Refusals.{file_limit};
-ghost use Rattle.market.specs.Refusals.{lowest_member};
-ghost use Rattle.market.specs.inner.Cases.{place_of};
+ghost use Rattle.records.specs.Market.{members_of};
+ghost use Rattle.market.specs.Refusals.{from5, from9};
+ghost use Rattle.market.specs.inner.Feeders.{Finds};
 ghost use Rattle.market.specs.inner.Tallies.{Offered, Counts, Tallied, outside};
 
-use crate::{Place, member_place};
 use numbers::Member;
-use records::Reading;
+use records::{Record, Refusal, Rule, read_at};
 
 // The highest member number in any record, the number of offers, and how many each member has; member 1 stands first.
 #[derive(Clone, Copy)]
@@ -19,91 +19,99 @@ pub struct Tally {
     pub by: [u16; 32],
 }
 
-fn higher(a: Member, b: Member) -> Member
-    ensures { result.0 ≡ max a.0 b.0 }
-{
-    if a.below(b) {
-        return b;
+impl Tally {
+    // One record more, which names member m.
+    fn named(&mut self, m: Member)
+        ensures { (self.new.members.0 ≡ max self.old.members.0 m.0) × (self.new.offers ≡ self.old.offers) × (self.new.by ≡ self.old.by) }
+    {
+        self.members = self.members.max(m);
     }
-    a
-}
 
-// The tally of one record more, which names member m.
-fn named(t: Tally, m: Member) -> Tally
-    ensures { (result.members.0 ≡ max t.members.0 m.0) × (result.offers ≡ t.offers) × (result.by ≡ t.by) }
-{
-    let top = higher(t.members, m);
-    let mut out = t;
-    out.members = top;
-    out
-}
-
-// The tally of one offer more, of member m.
-fn offered(t: Tally, m: Member) -> Tally
-    requires { (1 ≤ m.0) × (m.0 ≤ 32) × (t.offers < 65535) × ((j : ℕ) → j < 32 → get_or t.by j 0 < 65535) }
-    ensures { Offered m.0 t result }
-{
-    let mut by = t.by;
-    let j = m.index();
-    by[j] += 1;
-    let offers = t.offers + 1;
-    let members = higher(t.members, m);
-    Tally {
-        members,
-        offers,
-        by,
+    // One offer more, of member m.
+    fn offered(&mut self, m: Member)
+        requires { (1 ≤ m.0) × (m.0 ≤ 32) × (self.old.offers < 65535) × ((j : ℕ) → j < 32 → get_or self.old.by j 0 < 65535) }
+        ensures { Offered m.0 self.old self.new }
+    {
+        self.named(m);
+        self.offers += 1;
+        self.by[m.index()] += 1;
     }
-}
 
-// The tally with record i.
-fn counted(file: &[u8], i: usize, t: Tally) -> Tally
-    requires { (8 * i + 8 ≤ length file.now) × (t.offers < 65535) × ((j : ℕ) → j < 32 → get_or t.by j 0 < 65535) }
-    ensures { Counts (entry_at file.now i) t result }
-{
-    let r = records::read_at(file, i);
-    match r {
-        Reading::Link(a, b, _) => named(named(t, a), b),
-        Reading::Offer(m, _) => offered(t, m),
-        Reading::Begins(m) => named(t, m),
-        Reading::Fault(_) => t,
+    // Record i more.
+    fn counted(&mut self, file: &[u8], i: usize)
+        requires { (8 * i + 8 ≤ length file.now) × (self.old.offers < 65535) × ((j : ℕ) → j < 32 → get_or self.old.by j 0 < 65535) }
+        ensures { Counts (entry_at file.now i) self.old self.new }
+    {
+        match read_at(file, i) {
+            Ok(Record::Link(a, b, _)) => {
+                self.named(a);
+                self.named(b);
+            }
+            Ok(Record::Offer(m, _)) => self.offered(m),
+            Ok(Record::Begins(m)) => self.named(m),
+            Err(_) => {}
+        }
+    }
+
+    // The index of the lowest member that has fewer than `least` offers or more than `most`.
+    fn lowest_outside(&self, least: u16, most: u16) -> Option<usize>
+        requires { self.now.members.0 ≤ 32 }
+        ensures first { result ≡ position (outside least most) (take self.now.members.0 self.now.by) }
+        ensures bound { IfSome result (λ j. j < self.now.members.0) }
+    {
+        self.by[..self.members.0 as usize]
+            .iter()
+            .position(|count| *count < least || most < *count)
     }
 }
 
-pub fn count_offers(file: &[u8]) -> Tally
+// The tally of a file that has an offer and from 1 to 64 of each member, else refusal 5, 6 or 7.
+pub fn offers(file: &[u8]) -> Result<Tally, Refusal>
+    requires { length file.now ≤ file_limit }
+    ensures { Finds (λ t. (t.members.0 ≡ members_of (entries file.now)) × (1 ≤ t.members.0)) (from5 file.now) (from9 file.now) result }
+{
+    let t = count_offers(file);
+    if t.offers == 0 {
+        return Err(Refusal {
+            rule: Rule::NoOffer,
+            place: 0,
+        });
+    }
+    if let Some(j) = t.lowest_outside(1, u16::MAX) {
+        return Err(Refusal {
+            rule: Rule::WithoutOffer,
+            place: member_place(j),
+        });
+    }
+    if let Some(j) = t.lowest_outside(0, 64) {
+        return Err(Refusal {
+            rule: Rule::TooManyOffers,
+            place: member_place(j),
+        });
+    }
+    Ok(t)
+}
+
+// A file's tally.
+fn count_offers(file: &[u8]) -> Tally
     requires { length file.now ≤ file_limit }
     ensures { Tallied (entries file.now) result }
 {
-    let n = file.len() / 8;
     let mut t = Tally {
         members: Member(0),
         offers: 0,
         by: [0; 32],
     };
-    let mut i: usize = 0;
-    while i < n {
-        let next = counted(file, i, t);
-        t = next;
-        i += 1;
+    for i in 0..file.len() / 8 {
+        t.counted(file, i);
     }
     t
 }
 
-// The lowest of members 1 to n that has fewer than `least` offers or more than `most`.
-pub fn lowest_outside(by: [u16; 32], n: Member, least: u16, most: u16) -> Place
-    requires { n.0 ≤ 32 }
-    ensures { result ≡ place_of (lowest_member (outside by least most) n.0) }
+// The number of the member at an index, as a refusal's place.
+pub fn member_place(index: usize) -> u16
+    requires { index < 32 }
+    ensures { result ≡ index + 1 }
 {
-    let last = n.0 as usize;
-    let mut j: usize = 0;
-    while j < last {
-        let count = by[j];
-        if count < least {
-            return Place::At(member_place(j));
-        }
-        if most < count {
-            return Place::At(member_place(j));
-        }
-        j += 1;
-    }
-    Place::Nowhere
+    u16::from(Member::at(index).0)
 }

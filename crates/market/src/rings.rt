@@ -1,68 +1,60 @@
 // Refusal 9: the first link record whose link joins members already joined by earlier links. The links before it are kept.
-ghost use Rattle.std.specs.Prelude.{◌≡◌, [], ◌≤◌, length};
-ghost use Rattle.records.specs.Records.{entries};
+ghost use Rattle.std.specs.Prelude.{◌≡◌, ◌≢◌, [], ◌+◌, ◌*◌, ◌≤◌, length, MatchOption};
+ghost use Rattle.std.proofs.Math.Option.{none};
+ghost use Rattle.problem.specs.Problem.{Link};
+ghost use Rattle.records.specs.Records.{entry_at, entries};
+ghost use Rattle.records.specs.Records.Entry.{link};
 ghost use Rattle.records.specs.Refusals.{file_limit};
 ghost use Rattle.records.specs.Market.{links_of};
-ghost use Rattle.market.specs.Refusals.{first_record, closes};
-ghost use Rattle.market.specs.inner.Cases.{place_of, nowhere};
-ghost use Rattle.market.specs.inner.Lines.{kept, Fair};
+ghost use Rattle.market.specs.Refusals.{first_record, closes, from9, from10};
+ghost use Rattle.market.specs.inner.Feeders.{Finds};
+ghost use Rattle.market.specs.inner.Lines.{link_in, kept};
 
-use crate::Place;
-use crate::links::{Line, Links, no_links, with_link};
-use network::bits::{join, only};
-use network::parts::{gathered, holds_both, merged};
-use records::Reading;
+use crate::line::Line;
+use arrayvec::ArrayVec;
+use network::bits::Members;
+use network::parts::{Ends, gathered, holds_both, merged};
+use records::{Record, Refusal, Rule, read_at};
 
-// The record of the first link that closes a ring, and the links before it.
-#[derive(Clone, Copy)]
-pub struct Read {
-    pub closing: Place,
-    pub links: Links,
+// Record i as it is kept, if it is a link.
+fn line_at(file: &[u8], i: usize) -> Option<Line>
+    requires { 8 * i + 8 ≤ length file.now }
+    ensures { MatchOption result ((l : Link) → entry_at file.now i ≢ link l) (λ x. entry_at file.now i ≡ link (link_in x)) }
+{
+    let Ok(record) = read_at(file, i) else {
+        return None;
+    };
+    let Record::Link(a, b, capacity) = record else {
+        return None;
+    };
+    let ends = Ends { a, b };
+    Some(Line { ends, capacity })
 }
 
-// For each earlier link the members of its part are kept as a set. A link closes a ring if one of the sets holds both its
-// ends; else the sets that hold one of them become one.
-pub fn read_links(file: &[u8]) -> Read
+// The links of a file of which none closes a ring, else refusal 9 at the first that does. For each earlier link the members of its part are kept
+// as a set. A link closes a ring if one of the sets holds both its ends; else the sets that hold one of them become one.
+pub fn links(file: &[u8]) -> Result<ArrayVec<Line, 31>, Refusal>
     requires { length file.now ≤ file_limit }
-    ensures { (result.closing ≡ place_of (first_record closes 0 [] (entries file.now))) × Fair result.links × (result.closing ≡ nowhere → kept result.links ≡ links_of (entries file.now)) }
+    ensures { Finds (λ s. (first_record closes 0 [] (entries file.now) ≡ none) × (kept s.items ≡ links_of (entries file.now))) (from9 file.now) (from10 file.now) result }
 {
-    let n = file.len() / 8;
-    let mut links = no_links();
-    let mut parts = [0u32; 31];
-    let mut i: usize = 0;
-    let closing = 'scan: loop {
-        if i == n {
-            break Place::Nowhere;
-        }
-        let r = records::read_at(file, i);
-        let Reading::Link(x, y, c) = r else {
-            i += 1;
+    let mut links = ArrayVec::new();
+    let mut parts = [Members(0); 31];
+    'records: for i in 0..file.len() / 8 {
+        let Some(line) = line_at(file, i) else {
             continue;
         };
-        let a = x.index();
-        let b = y.index();
-        let count = links.count;
-        let mut m = join(only(a), only(b));
-        let mut e: usize = 0;
-        while e < count {
-            let old = parts[e];
-            if holds_both(old, a, b) {
-                let at = i as u16;
-                break 'scan Place::At(at);
+        let mut m = Members::only(line.ends.a).join(Members::only(line.ends.b));
+        'parts: for part in &parts[..links.len()] {
+            if holds_both(*part, line.ends) {
+                return Err(Refusal {
+                    rule: Rule::ClosesRing,
+                    place: i as u16,
+                });
             }
-            m = gathered(m, old, a, b);
-            e += 1;
+            m = gathered(m, *part, line.ends);
         }
-        let next = merged(parts, count, a, b, m);
-        parts = next;
-        let line = Line {
-            a: x,
-            b: y,
-            capacity: c,
-        };
-        let more = with_link(links, line);
-        links = more;
-        i += 1;
-    };
-    Read { closing, links }
+        merged(&mut parts, links.len(), line.ends, m);
+        links.push(line);
+    }
+    Ok(links)
 }

@@ -1,60 +1,63 @@
 // Refusal 10, and the tree of a market that passes: its members by the positions of the walk, the position that each was
 // reached from, and the capacity of the link between.
-ghost use Rattle.std.specs.Prelude.{◌≡◌, [], ℕ, ◌<◌, ◌≤◌, pos, get_or};
-ghost use Rattle.numbers.specs.inner.Held.{units, member_in};
+ghost use Rattle.std.specs.Prelude.{◌≡◌, [], ℕ, ◌<◌, ◌≤◌};
+ghost use Rattle.std.proofs.Math.Option.{none};
 ghost use Rattle.problem.proofs.Tree.{Within, Open};
+ghost use Rattle.network.specs.inner.Positions.{no_position};
+ghost use Rattle.network.specs.inner.Walks.{walked_from};
 ghost use Rattle.records.specs.Refusals.{refusal};
 ghost use Rattle.market.specs.Refusals.{apart};
-ghost use Rattle.market.specs.inner.Feeders.{capacity_of, places, checked};
-ghost use Rattle.market.specs.inner.Lines.{kept, Fair, market_on};
+ghost use Rattle.market.specs.inner.Feeders.{places, step_at, FeederOf, Finds};
+ghost use Rattle.market.specs.inner.Lines.{kept, market_on};
 
-use crate::links::{Links, capacity, neighbours};
-use crate::{Checked, member_place, refused};
-use network::Feeder;
-use network::bits::lowest_missing;
-use network::walk::walk;
+use crate::line::Line;
+use crate::links::{capacity, neighbours};
+use network::walk::{Walked, walk};
+use network::{Feeder, Position};
 use numbers::{Member, Units};
-use records::Verdict;
+use records::{Refusal, Rule};
 
-// The capacity of the link that each of n positions was reached over.
-fn carried(links: Links, member: [Member; 32], parent: [u8; 32], n: usize) -> [Units; 32]
-    requires { Fair links × (n ≤ 32) × ((i : ℕ) → i < n → get_or parent i 0 < 32) }
-    ensures { result ≡ places (units (pos 0)) 32 n (λ i. units (pos (capacity_of (kept links) (member_in member i) (member_in member (get_or parent i 0))))) }
+// The positions of a walk of n members, each with the capacity of the link that it was reached over.
+fn positions(links: &[Line], walked: &Walked, n: Member) -> [Position; 32]
+    requires { (n.0 ≤ 32) × ((i : ℕ) → i < n.0 → walked_from walked.now.step i < 32) }
+    ensures { result ≡ places no_position 32 n.0 (step_at (kept links.now) walked.now.step) }
 {
-    let mut out = [Units(0); 32];
-    let mut i: usize = 0;
-    while i < n {
-        let from = parent[i] as usize;
-        out[i] = capacity(links, member[i], member[from]);
-        i += 1;
+    let none = Position {
+        member: Member(0),
+        parent: 0,
+        toward: Units(0),
+        away: Units(0),
+    };
+    let mut out = [none; 32];
+    for i in 0..usize::from(n.0) {
+        let step = walked.step[i];
+        let from = walked.step[usize::from(step.from)];
+        let most = capacity(links, step.member, from.member);
+        out[i] = Position {
+            member: step.member,
+            parent: step.from,
+            toward: most,
+            away: most,
+        };
     }
     out
 }
 
-// Refused under 10 where a member from 1 to n is not joined to member 1, else the market on its tree.
-pub fn ten(links: Links, n: Member) -> Checked
-    requires { Fair links × (1 ≤ n.0) × (n.0 ≤ 32) × Within n.0 (kept links) × Open [] (kept links) }
-    ensures { result ≡ checked (market_on n.0 (kept links)) (refusal 10 (apart (market_on n.0 (kept links)))) }
+// The feeder of the links' market of n members, or refusal 10 at the lowest member that is not joined to member 1.
+pub fn feeder(links: &[Line], n: Member) -> Result<Feeder, Refusal>
+    requires { (1 ≤ n.0) × (n.0 ≤ 32) × Within n.0 (kept links.now) × Open [] (kept links.now) }
+    ensures { Finds (FeederOf (market_on n.0 (kept links.now))) (refusal 10 (apart (market_on n.0 (kept links.now)))) none result }
 {
-    let members = n.0;
-    let size = members as u32;
-    let walked = walk(neighbours(links));
-    let missing = lowest_missing(walked.reached, size);
-    if missing < size {
-        return refused(10, member_place(missing as usize));
+    let walked = walk(&neighbours(links));
+    if let Some(member) = walked.reached.lowest_missing(n) {
+        return Err(Refusal {
+            rule: Rule::Apart,
+            place: u16::from(member.0),
+        });
     }
-    let member = walked.member;
-    let parent = walked.parent;
-    let most = carried(links, member, parent, members as usize);
-    let feeder = Feeder {
-        members,
-        member,
-        parent,
-        toward: most,
-        away: most,
-    };
-    Checked {
-        verdict: Verdict::Sound,
-        feeder,
-    }
+    let position = positions(links, &walked, n);
+    Ok(Feeder {
+        members: n.0,
+        position,
+    })
 }

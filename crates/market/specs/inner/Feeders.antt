@@ -1,14 +1,19 @@
 -- A market on a tree, by the positions of its walk: position 0 is member 1, position i the i-th member reached.
-use Rattle.std.specs.Prelude.{cond, List, [], ◌∷◌, ◌++◌, ℕ, zero, suc, eqb, ltb, length, pos}
-use Rattle.std.proofs.Math.Option.{Option, none, some}
+use Rattle.std.specs.Prelude.{◌≡◌, cond, List, [], ◌∷◌, ◌++◌, ℕ, zero, suc, eqb, ltb, length, pos, Result, Err, MatchResult}
+use Rattle.std.proofs.Math.Option.{Option, none}
+use Rattle.numbers.specs.declared.Units.{Units}
 use Rattle.numbers.specs.inner.Held.{member, units}
 use Rattle.problem.specs.Problem.{Link, Market, Stop, joins, lowest, walk}
 use Rattle.network.specs.declared.Feeder.{Feeder}
-use Rattle.records.specs.Refusals.{Refusal}
+use Rattle.network.specs.declared.Position.{Position}
+use Rattle.network.specs.declared.walk.Step.{Step}
+use Rattle.network.specs.inner.Walks.{walked_at, walked_from}
+use Rattle.network.specs.inner.Positions.{no_position}
+use Rattle.records.specs.Refusals as R
+use Rattle.records.specs.declared.Refusal.{Refusal}
 use Rattle.records.specs.Market.{market_of}
 use Rattle.records.specs.inner.Cases.{verdict_of}
 use Rattle.market.specs.Refusals.{file_refusal}
-use Rattle.market.specs.declared.Checked.{Checked}
 
 -- the member at position i; the stops stand latest first
 unfoldable pub reached_at : List Stop → ℕ → ℕ
@@ -34,30 +39,36 @@ unfoldable pub places : {A : Type 0} → A → ℕ → ℕ → (ℕ → A) → L
 places x zero n f = []
 places x (suc k) n f = places x k n f ++ (cond (ltb k n) (f k) x ∷ [])
 
--- a feeder of n members, by what stands at each position
-unfoldable pub laid_out : ℕ → (ℕ → ℕ) → (ℕ → ℕ) → (ℕ → ℕ) → (ℕ → ℕ) → Feeder
-laid_out n at parent toward away = record {
-  members = n;
-  member = places (member 0) 32 n (λ i. member (at i));
-  parent = places 0 32 n parent;
-  toward = places (units (pos 0)) 32 n (λ i. units (pos (toward i)));
-  away = places (units (pos 0)) 32 n (λ i. units (pos (away i)));
-}
-
-unfoldable pub feeder_of : Market → Feeder
-feeder_of m =
+-- what stands at position i
+unfoldable pub laid_at : Market → ℕ → Position
+laid_at m i =
     let seen : List Stop = walk m in
-    laid_out m.members (reached_at seen) (λ i. position_of seen (reached_from seen i))
-    (λ i. capacity_of m.links (reached_at seen i) (reached_from seen i))
-    (λ i. capacity_of m.links (reached_from seen i) (reached_at seen i))
+    record {
+      member = member (reached_at seen i);
+      parent = position_of seen (reached_from seen i);
+      toward = units (pos (capacity_of m.links (reached_at seen i) (reached_from seen i)));
+      away = units (pos (capacity_of m.links (reached_from seen i) (reached_at seen i)));
+    }
 
-unfoldable pub no_feeder : Feeder
-no_feeder = laid_out 0 (λ i. 0) (λ i. 0) (λ i. 0) (λ i. 0)
+unfoldable pub positions_of : Market → List Position
+positions_of m = places no_position 32 m.members (laid_at m)
 
--- a market that nothing is said against, or a refusal
-unfoldable pub checked : Market → Option Refusal → Checked
-checked m none = record { verdict = verdict_of none; feeder = feeder_of m }
-checked m (some r) = record { verdict = verdict_of (some r); feeder = no_feeder }
+-- position i of a walk over links, by its steps
+unfoldable pub step_at : List Link → List Step → ℕ → Position
+step_at ls steps i =
+    let most : Units = units (pos (capacity_of ls (walked_at steps i) (walked_at steps (walked_from steps i)))) in
+    record { member = member (walked_at steps i); parent = walked_from steps i; toward = most; away = most }
 
-unfoldable pub checked_of : List ℕ → Checked
-checked_of file = checked (market_of file) (file_refusal file)
+-- f is the market's feeder
+pub record FeederOf (m : Market) (f : Feeder) : Type 0 where
+  pub members : f.members ≡ m.members
+  pub position : f.position ≡ positions_of m
+
+-- what a check finds: where it refuses nothing, something that meets P, and `later` is what is left to be said of the file;
+-- else the refusal that the file has
+abbrev pub Finds : {A : Type 0} → (A → Type 0) → Option R.Refusal → Option R.Refusal → Result A Refusal → Type 0
+Finds P now later r = MatchResult r (λ x. (now ≡ later) × P x) (λ e. verdict_of now ≡ Err e)
+
+-- the feeder of a market that nothing is said against, or the refusal
+abbrev pub Checked : List ℕ → Result Feeder Refusal → Type 0
+Checked file r = Finds (FeederOf (market_of file)) (file_refusal file) none r

@@ -1,5 +1,5 @@
 -- What a tally says of records.
-use Rattle.std.specs.Prelude.{◌≡◌, Bool, cond, ◌||◌, List, [], ◌∷◌, ℕ, suc, ◌+◌, ◌-◌, ◌≤◌, ◌<◌, max, eqb, ltb, length, get_or}
+use Rattle.std.specs.Prelude.{◌≡◌, Bool, cond, ◌||◌, List, [], ◌∷◌, ℕ, suc, ◌+◌, ◌≤◌, ◌<◌, max, eqb, nat_lt, length, get_or}
 use Rattle.records.specs.Records.{Entry}
 use Rattle.records.specs.Market.{members_of, offers_of}
 use Rattle.market.specs.Refusals.{offers_by}
@@ -23,7 +23,8 @@ pub record Tallied (es : List Entry) (t : Tally) : Type 0 where
   pub offers : t.offers ≡ length (offers_of es)
   pub by : (j : ℕ) → j < 32 → get_or t.by j 0 ≡ offers_by (suc j) (offers_of es)
   pub few : (j : ℕ) → j < 32 → get_or t.by j 0 ≤ 65535
+  pub high : t.members.0 ≤ 32
 
--- member j has fewer than `least` or more than `most`
-unfoldable pub outside : List ℕ → ℕ → ℕ → ℕ → Bool
-outside by least most j = ltb (get_or by (j - 1) 0) least || ltb most (get_or by (j - 1) 0)
+-- fewer than `least` or more than `most`
+abbrev pub outside : ℕ → ℕ → ℕ → Bool
+outside least most x = nat_lt x least || nat_lt most x
