@@ -1,5 +1,5 @@
 -- The position of each member, put down one position after the other. Assumes nothing.
-use mathlib.Core.Path.{◌≡◌, sym, ap, ◌∙◌}
+use mathlib.Core.Path.{◌≡◌, sym, ap, ◌∙◌, subst}
 use mathlib.Core.Logic.{◌⊎◌, inl, inr}
 use mathlib.Core.Bool.{true, false}
 use mathlib.Core.List.{List}
@@ -11,7 +11,8 @@ use lib.Seq.{get_or-set_same, get_or-set_other}
 use Rattle.problem.proofs.Count.{same?}
 use Rattle.network.proofs.Near.{blank_none}
 use Rattle.network.specs.declared.Feeder.{Feeder}
-use Rattle.network.specs.inner.Feeders.{member_at, Sound}
+use Rattle.network.specs.inner.Feeders.{member_at}
+use Rattle.network.specs.inner.Positions.{Sound}
 use Rattle.answer.specs.inner.Words.{position_in, Positioned}
 
 -- the positions below i have been put down
@@ -20,7 +21,10 @@ pub record Seating (f : Feeder) (position : List ℕ) (i : ℕ) : Type 0 where
   pub at : (k : ℕ) → k < i → position_in position (member_at f k) ≡ k
   pub inside : (j : ℕ) → get_or position j 0 < f.members
 
-module _ {f : Feeder} (s : Sound f) where
+module _ (f : Feeder) where
+  abbrev s : Sound f.members f.position
+  s = f.sound
+
   pub seating_none : Seating f (replicate 32 0) 0
   seating_none = record {
     long = length-replicate {A = ℕ} 32 0;
@@ -28,8 +32,8 @@ module _ {f : Feeder} (s : Sound f) where
     inside = λ j. omega (arith, blank_none {A = ℕ} 0 32 0 j (omega arith), s.some);
   }
 
-  pub seating_more : {position : List ℕ} {i : ℕ} → Seating f position i → i < f.members → Seating f (set position (member_at f i - 1) i) (i + 1)
-  seating_more {position} {i} p l = record {
+  seating_next : {position : List ℕ} {i : ℕ} → Seating f position i → i < f.members → Seating f (set position (member_at f i - 1) i) (i + 1)
+  seating_next {position} {i} p l = record {
     long = length-set position (member_at f i - 1) i ∙ p.long;
     at = λ k lk. at_place k lk (same? k i);
     inside = λ j. anywhere j (same? j (member_at f i - 1));
@@ -50,6 +54,9 @@ module _ {f : Feeder} (s : Sound f) where
           → get_or (set position (member_at f i - 1) i) j 0 < f.members
       anywhere j (inl h) = rw (h.0, get_or-set_same position (member_at f i - 1) i 0 here) l
       anywhere j (inr h) = rw (get_or-set_other position (member_at f i - 1) j i 0 h.0) (p.inside j)
+
+  pub seating_more : {position : List ℕ} {i j : ℕ} → Seating f position i → i < f.members → j ≡ member_at f i - 1 → Seating f (set position j i) (i + 1)
+  seating_more {position} {i} {j} p l is = subst (λ (k : ℕ). Seating f (set position k i) (i + 1)) (sym is) (seating_next p l)
 
 pub seated : {f : Feeder} {position : List ℕ} {i : ℕ} → f.members ≤ i → Seating f position i → Positioned f position
 seated l p = record { at = λ k lk. p.at k (omega arith); inside = p.inside }

@@ -9,8 +9,8 @@ use lib.Dec.{eqb, ltb}
 use lib.ListN.{length, get_or}
 use lib.IntN.{ℤ, nat_abs, neg_ℤ-neg_ℤ}
 use borrow.Author.Tests.{eq-eqb, ltb-true, ltb-false, le-ltb}
-use Rattle.numbers.specs.inner.Held.{units_in}
-use Rattle.numbers.specs.declared.Units.{Units}
+use Rattle.engine.specs.inner.Words.{net_in, sent_in}
+use Rattle.engine.specs.declared.Trade.{Trade}
 use Rattle.numbers.proofs.Tests.{and_both}
 use Rattle.problem.specs.Problem.{Link, Market, InRange, value, load}
 use Rattle.problem.specs.Problem.InRange.{end, flow}
@@ -35,14 +35,14 @@ use Rattle.answer.proofs.Sizes.{size_from_lower}
 
 -- ---- a member's record
 
-pub member_by_lem : (records position : List ℕ) (net : List Units) (i : ℕ) {j : ℕ} {x v : ℤ} → j ≡ i + 1 → x ≡ units_in net (get_or position i 0) → v ≡ or_zero (value (offers_of (entries records)) j x)
-    → member_bytes j x v ≡ member_by records position net (i + 1)
+pub member_by_lem : (records position : List ℕ) (trades : List Trade) (i : ℕ) {j : ℕ} {x v : ℤ} → j ≡ i + 1 → x ≡ net_in trades (get_or position i 0) → v ≡ or_zero (value (offers_of (entries records)) j x)
+    → member_bytes j x v ≡ member_by records position trades (i + 1)
 unfolding member_by
-member_by_lem records position net i e p q = let k : i + 1 - 1 ≡ i = omega arith in rw (q, p, e, k)
+member_by_lem records position trades i e p q = let k : i + 1 - 1 ≡ i = omega arith in rw (q, p, e, k)
 
-pub members_length : (records position : List ℕ) (net : List Units) (n : ℕ) → length (each n (member_by records position net)) ≡ 8 * n
+pub members_length : (records position : List ℕ) (trades : List Trade) (n : ℕ) → length (each n (member_by records position trades)) ≡ 8 * n
 unfolding member_by
-members_length records position net n = each_8 n (member_by records position net) (λ j. member_8 j _ _)
+members_length records position trades n = each_8 n (member_by records position trades) (λ j. member_8 j _ _)
 
 -- ---- the record between two members
 
@@ -111,7 +111,7 @@ unfolding from_lower
 size_upward true y = refl
 size_upward false y = size_from_lower false y
 
-module _ {m : Market} {ys : List ℤ} {records : List ℕ} {f : Feeder} {net sent : List Units} (S : Settles m ys records f net sent) where
+module _ {m : Market} {ys : List ℤ} {records : List ℕ} {f : Feeder} {trades : List Trade} (S : Settles m ys records f trades) where
   abbrev R : Tree m
   R = S.laid.tree
 
@@ -122,7 +122,7 @@ module _ {m : Market} {ys : List ℤ} {records : List ℕ} {f : Feeder} {net sen
   count = S.laid.members
 
   -- what a position sends is its link's flow
-  sent_is : (d : ℕ) → d < E → units_in sent (suc d) ≡ upward (lower_of m (suc d)) (at ys (link_of m (suc d)))
+  sent_is : (d : ℕ) → d < E → sent_in trades (suc d) ≡ upward (lower_of m (suc d)) (at ys (link_of m (suc d)))
   sent_is d h =
       let l : suc d < f.members = omega (arith, one_fewer m R, count) in
       let k : parent m (suc d) < f.members = omega (arith, (arranged m R).rising (suc d) (omega arith)) in
@@ -132,7 +132,7 @@ module _ {m : Market} {ys : List ℤ} {records : List ℕ} {f : Feeder} {net sen
       ∙ sent_place m.members m.links R.within ys (as_many S.within) (member m (suc d)) (member m (parent m (suc d))) (near m R d (omega (arith, (steps m R).0)))
 
   -- no flow is more than its link carries
-  pub fitting : Fitting f sent
+  pub fitting : Fitting f trades
   fitting zero l = rw S.first (omega arith)
   fitting (suc d) l =
       let h : d < E = omega (arith, one_fewer m R, count) in
@@ -149,13 +149,13 @@ module _ {m : Market} {ys : List ℤ} {records : List ℕ} {f : Feeder} {net sen
   abbrev Over : ℕ → ℕ → ℕ → Bool → Type 0
   Over i c p t =
       between m.links ys (pick t c p) (pick t p c)
-      ≡ link_record (record { a = pick t c p; b = pick t p c; capacity = toward_at f i }) (from_lower t (units_in sent i))
+      ≡ link_record (record { a = pick t c p; b = pick t p c; capacity = toward_at f i }) (from_lower t (sent_in trades i))
 
   over : (d : ℕ) → d < E → (t : Bool) → lower_of m (suc d) ≡ t → Over (suc d) (member m (suc d)) (member m (parent m (suc d))) t
   over d h t z =
       between_one m.links ys (as_many S.within) (pick t c p) (pick t p c) e ((arranged m R).link_in d h) (low_end m R d h t z) (high_end m R d h t z)
       (λ k lk x y. sym (link_only m R k d lk h (ends_by t (link_at m.links k) c p x y)))
-      ∙ record_same (link_at m.links e) (at ys e) (from_lower t (units_in sent (suc d))) (pick t c p) (pick t p c) (toward_at f (suc d))
+      ∙ record_same (link_at m.links e) (at ys e) (from_lower t (sent_in trades (suc d))) (pick t c p) (pick t p c) (toward_at f (suc d))
       (low_end m R d h t z) (high_end m R d h t z) (sym (S.laid.toward_is (suc d) ∙ (cap_both m (suc d)).0))
       (sym (ap (from_lower t) (sent_is d h ∙ ap (λ (b : Bool). upward b (at ys e)) z) ∙ lower_back t (at ys e)))
     where
@@ -182,14 +182,14 @@ module _ {m : Market} {ys : List ℤ} {records : List ℕ} {f : Feeder} {net sen
     placed : (a : ℕ) → 1 ≤ a → a ≤ m.members → (position_in position a < m.members) × (member m (position_in position a) ≡ a)
     placed = each_member m R (λ a. (position_in position a < m.members) × (member m (position_in position a) ≡ a)) (λ i l. (omega (arith, place_member i l), ap (member m) (place_member i l)))
 
-    members_same : each f.members (member_by records position net) ≡ each m.members (member_record m ys)
+    members_same : each f.members (member_by records position trades) ≡ each m.members (member_record m ys)
     unfolding member_by member_record
     members_same =
         rw count
-        (each_same m.members (member_by records position net) (member_record m ys) (λ j p q.
+        (each_same m.members (member_by records position trades) (member_record m ys) (λ j p q.
         let a = placed j p q in
         let l : position_in position j < f.members = omega (arith, count, a.0) in
-        let e : units_in net (position_in position j) ≡ P.net j m.links ys =
+        let e : net_in trades (position_in position j) ≡ P.net j m.links ys =
         S.nets (position_in position j) l ∙ ap (λ (k : ℕ). P.net k m.links ys) (S.laid.member_is (position_in position j) l ∙ a.1) in
         rw (e, S.tables)))
 
@@ -230,14 +230,14 @@ module _ {m : Market} {ys : List ℤ} {records : List ℕ} {f : Feeder} {net sen
         reached (position_in position c) c p i.0 i.1 (ap (member m) (sym (S.laid.parent_is (position_in position c)) ∙ e) ∙ k.1) n
 
     -- the record of two members' link
-    link_right : (a b : ℕ) → 1 ≤ a → a ≤ m.members → 1 ≤ b → b ≤ m.members → link_by f position sent a b ≡ between m.links ys a b
+    link_right : (a b : ℕ) → 1 ≤ a → a ≤ m.members → 1 ≤ b → b ≤ m.members → link_by f position trades a b ≡ between m.links ys a b
     unfolding link_by joint_of joint_bytes
     link_right a b pa qa pb qb = sym (go (either (ltb a b)) (same? (parent_at f (position_in position b)) (position_in position a)) (same? (parent_at f (position_in position a)) (position_in position b)))
       where
         go : (ltb a b ≡ true) ⊎ (ltb a b ≡ false)
             → ((parent_at f (position_in position b) ≡ position_in position a) × (eqb (parent_at f (position_in position b)) (position_in position a) ≡ true)) ⊎ ((parent_at f (position_in position b) ≡ position_in position a → ⊥) × (eqb (parent_at f (position_in position b)) (position_in position a) ≡ false))
             → ((parent_at f (position_in position a) ≡ position_in position b) × (eqb (parent_at f (position_in position a)) (position_in position b) ≡ true)) ⊎ ((parent_at f (position_in position a) ≡ position_in position b → ⊥) × (eqb (parent_at f (position_in position a)) (position_in position b) ≡ false))
-            → between m.links ys a b ≡ joint_bytes f sent a b (joint_of f.parent position a b)
+            → between m.links ys a b ≡ joint_bytes f trades a b (joint_of f position a b)
         go (inr t) u v =
             rw t (between_none m.links ys a b (λ e l p q. omega (arith, (within_at m.members m.links R.within e l).1, ltb-false a b t)))
         go (inl t) (inl u) v =
@@ -248,19 +248,18 @@ module _ {m : Market} {ys : List ℤ} {records : List ℕ} {f : Feeder} {net sen
             rw (t, u.1, v.1) (over_between a b pa qa pb qb (λ e. omega arith) v.0 true t)
         go (inl t) (inr u) (inr v) = rw (t, u.1, v.1) (between_none m.links ys a b (unlinked a b u.0 v.0))
 
-    links_same : links_by f position sent ≡ each m.members (λ a. each m.members (between m.links ys a))
-    unfolding links_by
+    links_same : links_by f position trades ≡ each m.members (λ a. each m.members (between m.links ys a))
     links_same =
-        ap (λ (n : ℕ). each n (λ a. each n (link_by f position sent a))) count
-        ∙ each_same m.members (λ a. each m.members (link_by f position sent a)) (λ a. each m.members (between m.links ys a)) (λ a p q.
-        each_same m.members (link_by f position sent a) (between m.links ys a) (λ b r s. link_right a b p q r s))
+        ap (λ (n : ℕ). each n (λ a. each n (link_by f position trades a))) count
+        ∙ each_same m.members (λ a. each m.members (link_by f position trades a)) (λ a. each m.members (between m.links ys a)) (λ a p q.
+        each_same m.members (link_by f position trades a) (between m.links ys a) (λ b r s. link_right a b p q r s))
 
     -- ---- the answer
 
-    pub answer_is : (t : ℤ) → each f.members (member_by records position net) ++ links_by f position sent ++ total_record t ≡ answer_of m ys t
+    pub answer_is : (t : ℤ) → each f.members (member_by records position trades) ++ links_by f position trades ++ total_record t ≡ answer_of m ys t
     unfolding answer_of
     answer_is t = rw (members_same, links_same)
 
     -- the links' records fill the answer's middle part
-    pub links_room : length (links_by f position sent) ≡ 8 * (f.members - 1)
+    pub links_room : length (links_by f position trades) ≡ 8 * (f.members - 1)
     links_room = ap length links_same ∙ links_length m R ys (as_many S.within) ∙ ap (λ (k : ℕ). 8 * (k - 1)) (sym count)

@@ -1,18 +1,15 @@
 -- The price that stands for a value. Assumes nothing.
-use mathlib.Core.Path.{◌≡◌, refl, sym, ◌∙◌}
+use mathlib.Core.Path.{◌≡◌, ap, ◌∙◌}
 use mathlib.Core.Option.{Option, none, some}
 use lib.IntN.{ℤ, pos}
+use Rattle.std.specs.Prelude as Std
+use Rattle.std.specs.Option.{unwrap_or}
 use Rattle.numbers.specs.declared.Price.{Price}
+use Rattle.numbers.specs.inner.Held.{price}
 use Rattle.records.specs.Answer.{or_zero}
 use Rattle.rows.specs.inner.Rows.{worth_of}
-use Rattle.rows.specs.declared.Worth.{Worth}
 
-pub price_is : (w : Worth) (p : Price) (v : Option ℤ) → w ≡ Worth.Price p → w ≡ worth_of v → p.0 ≡ or_zero v
-unfolding worth_of or_zero
-price_is w p none e h = cc (sym e ∙ h)
-price_is w p (some z) e h = cc (sym e ∙ h)
-
-pub nothing_is : (w : Worth) (v : Option ℤ) → w ≡ Worth.Nothing → w ≡ worth_of v → pos 0 ≡ or_zero v
-unfolding worth_of or_zero
-nothing_is w none t h = refl
-nothing_is w (some z) t h = cc (sym t ∙ h)
+pub price_is : {o : Std.Option Price} {p : Price} → p ≡ unwrap_or o (price (pos 0)) → (v : Option ℤ) → o ≡ worth_of v → p.0 ≡ or_zero v
+unfolding or_zero
+price_is h none e = ap (λ (q : Price). q.0) (h ∙ ap (λ (r : Std.Option Price). unwrap_or r (price (pos 0))) e)
+price_is h (some z) e = ap (λ (q : Price). q.0) (h ∙ ap (λ (r : Std.Option Price). unwrap_or r (price (pos 0))) e)

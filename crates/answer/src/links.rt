@@ -1,92 +1,93 @@
 // The links' records, by their lower and then their higher member. A link is found at the position that was reached over it.
-ghost use Rattle.std.specs.Prelude.{◌≡◌, ◌++◌, ℕ, ◌≤◌, ◌<◌, length, get_or, drop, nat_abs};
-ghost use Rattle.network.specs.inner.Feeders.{Sound};
-ghost use Rattle.records.specs.Answer.{each};
-ghost use Rattle.answer.specs.inner.Words.{joint_of, from_lower, link_by, links_by, Positioned, Fitting, Filled};
+ghost use Rattle.std.specs.Prelude.{◌≡◌, ◌++◌, ◌≤◌, ◌<◌, length, drop, nat_abs, IfSome};
+ghost use Rattle.answer.specs.inner.Words.{position_in, joint_of, from_lower, link_by, links_of, links_by, Filled};
 
-use crate::put::put_link;
-use network::Feeder;
+use crate::{Allocation, bytes};
 use numbers::{Member, Units};
 
-// Two members are the ends of a link, which leads to a position that the lower of them has or the higher; or they are apart.
+// Where the link between two members is found: at the position that was reached over it, which is the lower member's or
+// the higher one's.
 #[derive(Clone, Copy)]
-pub enum Joint {
-    Over(u8, bool),
-    Apart,
+pub struct Joint {
+    pub reached: usize,
+    pub lower: bool,
 }
 
-// The link from a to b.
-fn link_between(parent: [u8; 32], position: [u8; 32], a: Member, b: Member) -> Joint
-    requires { (1 ≤ a.0) × (a.0 ≤ 32) × (1 ≤ b.0) × (b.0 ≤ 32) × ((j : ℕ) → get_or position j 0 < 32) }
-    ensures { result ≡ joint_of parent position a.0 b.0 }
-{
-    if !a.below(b) {
-        return Joint::Apart;
+impl Allocation<'_> {
+    // The position of a member.
+    fn place_of(&self, member: Member) -> usize
+        requires { (1 ≤ member.0) × (member.0 ≤ 32) }
+        ensures is { result ≡ position_in self.now.position_of member.0 }
+        ensures inside { result < self.now.feeder.now.members }
+    {
+        self.position_of[member.index()] as usize
     }
-    let lower = position[a.index()];
-    let higher = position[b.index()];
-    if parent[higher as usize] == lower {
-        return Joint::Over(higher, false);
+
+    // The link from a to b.
+    #[tactic(auto, unfolding(crate::specs::inner::Words::joint_of))]
+    fn link_between(&self, a: Member, b: Member) -> Option<Joint>
+        requires { (1 ≤ a.0) × (a.0 ≤ 32) × (1 ≤ b.0) × (b.0 ≤ 32) }
+        ensures is { result ≡ joint_of self.now.feeder.now self.now.position_of a.0 b.0 }
+        ensures inside { IfSome result (λ j. j.reached < self.now.feeder.now.members) }
+    {
+        if a >= b {
+            return None;
+        }
+        let lower = self.place_of(a);
+        let higher = self.place_of(b);
+        if self.feeder.position[higher].parent as usize == lower {
+            return Some(Joint {
+                reached: higher,
+                lower: false,
+            });
+        }
+        if self.feeder.position[lower].parent as usize == higher {
+            return Some(Joint {
+                reached: lower,
+                lower: true,
+            });
+        }
+        None
     }
-    if parent[lower as usize] == higher {
-        return Joint::Over(lower, true);
+
+    // The records of member a's links to higher members, in their order. Gives the number of bytes written.
+    #[tactic(auto, using(crate::proofs::Sizes::size_from_lower))]
+    fn write_links_of(&self, a: Member, out: &mut [u8]) -> usize
+        requires { (1 ≤ a.0) × (a.0 ≤ self.now.feeder.now.members) × (length (links_of self.now.feeder.now self.now.position_of self.now.trades.now a.0) ≤ length out.old) }
+        ensures { Filled (link_by self.now.feeder.now self.now.position_of self.now.trades.now a.0) self.now.feeder.now.members out.old result out.new }
+    {
+        let mut at = 0;
+        for i in 0..self.feeder.members as usize {
+            let b = Member::at(i);
+            let Some(joint) = self.link_between(a, b) else {
+                continue;
+            };
+            let capacity = self.feeder.position[joint.reached].toward;
+            let flow = from_lower(joint.lower, self.trades[joint.reached].sent);
+            let load = bytes::load_of(capacity, flow);
+            out[at..at + 8].copy_from_slice(&bytes::link(a, b, flow, load));
+            at += 8;
+        }
+        at
     }
-    Joint::Apart
+
+    // The records of all links.
+    pub fn write_links(&self, out: &mut [u8])
+        requires { length (links_by self.now.feeder.now self.now.position_of self.now.trades.now) ≤ length out.old }
+        ensures { out.new ≡ links_by self.now.feeder.now self.now.position_of self.now.trades.now ++ drop (length (links_by self.now.feeder.now self.now.position_of self.now.trades.now)) out.old }
+    {
+        let mut at = 0;
+        for i in 0..self.feeder.members as usize {
+            at += self.write_links_of(Member::at(i), &mut out[at..]);
+        }
+    }
 }
 
 // What flows from a link's lower member to its higher one, where one of them sends so much toward member 1.
+#[tactic(auto, unfolding(crate::specs::inner::Words::from_lower))]
 fn from_lower(lower: bool, sent: Units) -> Units
     requires { nat_abs sent.0 ≤ 40 }
     ensures { result.0 ≡ from_lower lower sent.0 }
 {
-    if lower {
-        return sent;
-    }
-    Units(0).minus(sent)
-}
-
-// The records of member a's links to higher members, in their order. Gives the number of bytes written.
-fn write_links_of(
-    feeder: Feeder,
-    position: [u8; 32],
-    sent: [Units; 32],
-    a: Member,
-    out: &mut [u8],
-) -> usize
-    requires feeder { Sound feeder × Positioned feeder position × Fitting feeder sent }
-    requires room { (1 ≤ a.0) × (a.0 ≤ feeder.members) × (length (each feeder.members (link_by feeder position sent a.0)) ≤ length out.old) }
-    ensures { Filled (link_by feeder position sent a.0) feeder.members out.old result out.new }
-{
-    let members = feeder.members as usize;
-    let mut at: usize = 0;
-    let mut i: usize = 0;
-    while i < members {
-        let b = Member::at(i);
-        i += 1;
-        let Joint::Over(reached, lower) = link_between(feeder.parent, position, a, b) else {
-            continue;
-        };
-        let capacity = feeder.toward[reached as usize];
-        let flow = from_lower(lower, sent[reached as usize]);
-        put_link(&mut out[at..], a, b, capacity, flow);
-        at += 8;
-    }
-    at
-}
-
-// The records of all links.
-pub fn write_links(feeder: Feeder, position: [u8; 32], sent: [Units; 32], out: &mut [u8])
-    requires feeder { Sound feeder × Positioned feeder position × Fitting feeder sent }
-    requires room { length (links_by feeder position sent) ≤ length out.old }
-    ensures { out.new ≡ links_by feeder position sent ++ drop (length (links_by feeder position sent)) out.old }
-{
-    let members = feeder.members as usize;
-    let mut at: usize = 0;
-    let mut i: usize = 0;
-    while i < members {
-        let a = Member::at(i);
-        i += 1;
-        let wrote = write_links_of(feeder, position, sent, a, &mut out[at..]);
-        at += wrote;
-    }
+    if lower { sent } else { Units(0) - sent }
 }
