@@ -1,17 +1,17 @@
 -- A refusal of a file or an area is one that the table allows: its number is one of theirs, and its place has 16 bits, so that the
--- number returned tells both. Here of refusals 1 to 4, 13 and 14, and of any that are tried one after the other. Assumes nothing.
+-- number returned tells both, and the error that stands for it does. Here of refusals 1 to 4, 13 and 14, and of any that are tried
+-- one after the other. Assumes nothing.
 use mathlib.Core.Path.{◌≡◌, refl, sym, ap, ap₂, ◌∙◌, subst}
 use mathlib.Core.Bool.{Bool, true, false, ◌&&◌, ◌||◌}
 use mathlib.Core.List.{List, ◌∷◌}
-use mathlib.Core.Logic.{inl, inr}
 use mathlib.Core.Option.{Option, none, some, none-ne-some, some-injective}
 use Prim.Native.Nat.{ℕ, zero, suc, ◌+◌, ◌/◌, ◌≤◌, ◌<◌}
 use native.Mathlib.Omega.{arith}
 use lib.Dec.{eqb, ltb}
 use lib.ListN.{length}
-use borrow.Author.Tests.{lt-ltb, le-ltb, ne_eqb, ltb-true, ltb-false}
+use Rattle.std.proofs.lemmas.Bool.Decides.{nat_tests}
 use Rattle.std.specs.Prelude.{Ok, Err}
-use Rattle.numbers.proofs.Tests.{bool_cases, true_false}
+use Rattle.numbers.proofs.Tests.{true_false}
 use Rattle.records.specs.declared.Refusal as D
 use Rattle.records.specs.inner.Cases.{number_of, rule_of, refusal_of, refusal_in, unless}
 use Rattle.records.proofs.Rules.{number_of_rule}
@@ -70,10 +70,7 @@ faulty_one i (begins j) es h b t = t
 faulty_one i (fault k) es h b t = this_allowed (given h) b
   where
     given : Fits (fault k) → listed k ≡ true
-    given (inl e) = ap listed e
-    given (inr (inl e)) = ap listed e
-    given (inr (inr (inl e))) = ap listed e
-    given (inr (inr (inr e))) = ap listed e
+    given f = grind (arith, nat_tests)
 
 faulty_allowed : (f : List ℕ) (i n : ℕ) → i + n ≤ 65536 → IfAllowed (faulty i (entries_from f i n))
 unfolding entries_from faulty
@@ -89,25 +86,8 @@ unsound_allowed f =
     (λ e2. faulty_allowed f 0 (length f / 8) (omega (arith, short_file f e))))
 
 -- ---- the numbers that refusals have are numbers of rules
-listed_high : (n : ℕ) → 14 < n → listed n ≡ false
-listed_high n h =
-    simp (
-      lt-ltb 0 n (omega (arith, h)),
-      lt-ltb 8 n (omega (arith, h)),
-      le-ltb n 8 (omega (arith, h)),
-      le-ltb n 12 (omega (arith, h)),
-      ne_eqb n 13 (λ q. omega (arith, h, q)),
-      ne_eqb n 14 (λ q. omega (arith, h, q)),
-    ) refl
-
 pub listed_number : (n : ℕ) → listed n ≡ true → number_of (rule_of n) ≡ n
-listed_number n e =
-    number_of_rule n (bool_cases (ltb 0 n) (λ b. 1 ≤ n) (λ t. omega (arith, ltb-true 0 n t)) (λ t. absurd (other 0 (omega (arith, ltb-false 0 n t)) refl)))
-    (bool_cases (ltb 14 n) (λ b. n ≤ 14) (λ t. absurd (true_false (sym e ∙ listed_high n (ltb-true 14 n t)))) (λ t. ltb-false 14 n t))
-    (λ q. other 8 q refl)
-  where
-    other : (k : ℕ) → n ≡ k → listed k ≡ false → ⊥
-    other k q f = true_false (sym e ∙ ap listed q ∙ f)
+listed_number n e = number_of_rule n (grind (arith, nat_tests)) (grind (arith, nat_tests)) (λ q. grind (arith, nat_tests))
 
 -- ---- what an error says of the refusal that it stands for, and no error
 module _ {A : Type 0} (x : A) where

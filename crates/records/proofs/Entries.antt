@@ -2,7 +2,7 @@
 -- and what a sound file's records are. Assumes nothing.
 use mathlib.Core.Path.{◌≡◌, refl, sym, ap, ◌∙◌, subst}
 use Rattle.std.specs.Prelude.{Result, Ok, Err}
-use mathlib.Core.Bool.{Bool, true, false, cond, not, ◌&&◌, ◌||◌}
+use mathlib.Core.Bool.{Bool, true, false, cond, ◌&&◌}
 use mathlib.Core.List.{List, [], ◌∷◌}
 use mathlib.Core.Logic.{◌⊎◌, inl, inr}
 use mathlib.Core.Option.{Option, none, some}
@@ -12,11 +12,11 @@ use native.Mathlib.Numerals.{add-one}
 use lib.Dec.{leb, ltb, eqb}
 use lib.ListN.{length}
 use lib.IntN.{ℤ, pos, neg_ℤ, nat_abs, ◌+ℤ◌, ◌*ℤ◌}
-use lib.Signed.{lt_z}
-use borrow.Author.Tests.{leb-true, ltb-true, ltb-false, not-false}
+use borrow.Author.Tests.{ltb-false}
 use Rattle.numbers.specs.declared.Member.{Member}
 use Rattle.numbers.specs.declared.Units.{Units}
-use Rattle.numbers.proofs.Tests.{bool_cases, and_true, or_false, within_true}
+use Rattle.std.proofs.lemmas.Bool.Decides.{nat_tests}
+use Rattle.numbers.proofs.Tests.{bool_cases, and_true, within_true}
 use Rattle.problem.specs.Problem as P
 use Rattle.problem.specs.Problem.{Link, Offer, worth}
 use Rattle.problem.proofs.Prices.{Limited}
@@ -27,7 +27,7 @@ use Rattle.records.specs.declared.Rule.{Rule}
 use Rattle.records.specs.Records.{Entry, byte, two, units_at, number_at, is_member, is_units, is_price, fields_fit, link_of, point_of, unfinished, unbegun, bad_span, span_of, link_at, point_at, begin_at, span_at, entry_at, entries_from, entries}
 use Rattle.records.specs.Records.Entry.{link, offer, begins, fault}
 use Rattle.records.specs.Refusals.{Refusal, refusal, ◌otherwise◌, place_if, file_limit, too_long, faulty, unsound}
-use Rattle.records.proofs.Rules.{rule_of_number}
+use Rattle.records.proofs.Rules.{rule_of_number, number_of_rule}
 use Rattle.records.specs.inner.Cases.{terms_of, terms_in, number_of, rule_of, refusal_of, reading_of, unless, verdict_of}
 
 -- ---- the records from i on, of n: record i and those from i + 1 on, or none
@@ -162,20 +162,18 @@ either k t x y f g = bool_cases t (λ b. Known k (cond b x y)) f g
 known_fault : (k n : ℕ) → Fits (fault n) → Known k (fault n)
 known_fault k n h = record { fits = h; member_is = tt }
 
+link_fits : (a b z c y x : ℕ) → leb 1 a && ltb a b && leb b 32 && eqb z 0 && leb c 40 && eqb y 0 && eqb x 0 ≡ true → LinkFits (record { a = a; b = b; capacity = c })
+link_fits a b z c y x e = record { low = grind (arith, nat_tests); below = grind (arith, nat_tests); high = grind (arith, nat_tests); small = grind (arith, nat_tests) }
+
 link_known : (a b z c y x : ℕ) → Known a (link_of a b z c y x)
 unfolding link_of
 link_known a b z c y x =
     either a (leb 1 a && ltb a b && leb b 32 && eqb z 0 && leb c 40 && eqb y 0 && eqb x 0) (link (record { a = a; b = b; capacity = c })) (fault 4)
-    (λ e.
-    let e5 = and_true (leb 1 a && ltb a b && leb b 32 && eqb z 0 && leb c 40) (eqb y 0) (and_true (leb 1 a && ltb a b && leb b 32 && eqb z 0 && leb c 40 && eqb y 0) (eqb x 0) e).0 in
-    let e4 = and_true (leb 1 a && ltb a b && leb b 32 && eqb z 0) (leb c 40) e5.0 in
-    let e2 = and_true (leb 1 a && ltb a b) (leb b 32) (and_true (leb 1 a && ltb a b && leb b 32) (eqb z 0) e4.0).0 in
-    let e1 = and_true (leb 1 a) (ltb a b) e2.0 in
-    record { fits = record { low = leb-true 1 a e1.0; below = ltb-true a b e1.1; high = leb-true b 32 e2.1; small = leb-true c 40 e4.1 }; member_is = tt })
+    (λ e. record { fits = link_fits a b z c y x e; member_is = tt })
     (λ e. known_fault a 4 (inr (inl refl)))
 
 is_member_lem : (j : ℕ) → is_member j ≡ true → MemberFits j
-is_member_lem j e = let m = and_true (leb 1 j) (leb j 32) e in (leb-true 1 j m.0, leb-true j 32 m.1)
+is_member_lem j e = (grind (arith, nat_tests), grind (arith, nat_tests))
 
 is_price_lem : (p : ℤ) → is_price p ≡ true → Limited 1000000 (some p)
 is_price_lem p e = within_true (neg_ℤ (pos 1000000)) (pos 1000000) p e
@@ -193,9 +191,7 @@ point_known j x p =
 -- a span that is not refused
 sound_span : (l u a b : ℤ) → bad_span l u a b ≡ false → (is_price ((a *ℤ l) +ℤ b) ≡ true) × (is_price ((a *ℤ u) +ℤ b) ≡ true)
 unfolding bad_span
-sound_span l u a b e =
-    let p = or_false (lt_z u l || not (is_price ((a *ℤ l) +ℤ b))) (not (is_price ((a *ℤ u) +ℤ b))) e in
-    (not-false _ (or_false (lt_z u l) (not (is_price ((a *ℤ l) +ℤ b))) p.0).1, not-false _ p.1)
+sound_span l u a b e = (grind (arith, nat_tests), grind (arith, nat_tests))
 
 span_known : (j : ℕ) (l u a b : ℤ) → MemberFits j → Known j (span_of j l u a b)
 unfolding span_of
@@ -262,10 +258,7 @@ unfolding record_of rule_of number_of
 fault_is e h r is = record_is e (λ k q. given k (subst Fits q h)) ∙ ap record_of is
   where
     given : (k : ℕ) → Fits (fault k) → number_of (rule_of k) ≡ k
-    given k (inl q) = rw q refl
-    given k (inr (inl q)) = rw q refl
-    given k (inr (inr (inl q))) = rw q refl
-    given k (inr (inr (inr q))) = rw q refl
+    given k h = number_of_rule k (grind arith) (grind arith) (λ q. grind arith)
 
 -- the pass at record i, of n; r is its reading
 module _ (f : List ℕ) (i n : ℕ) where

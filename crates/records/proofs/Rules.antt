@@ -1,7 +1,8 @@
 -- A rule is found from its number, and a number from its rule. Assumes nothing.
 use mathlib.Core.Path.{◌≡◌, refl}
-use Prim.Native.Nat.{ℕ, zero, suc, ◌≤◌}
+use Prim.Native.Nat.{ℕ, ◌≤◌}
 use native.Mathlib.Omega.{arith}
+use Rattle.std.proofs.lemmas.Bool.Decides.{nat_tests}
 use Rattle.records.specs.declared.Rule.{Rule}
 use Rattle.records.specs.inner.Cases.{number_of, rule_of}
 
@@ -23,19 +24,4 @@ rule_of_number Rule.BadSpan = refl
 
 pub number_of_rule : (n : ℕ) → 1 ≤ n → n ≤ 14 → (n ≡ 8 → ⊥) → number_of (rule_of n) ≡ n
 unfolding number_of rule_of
-number_of_rule zero l h d = omega (arith, l)
-number_of_rule (suc zero) l h d = refl
-number_of_rule (suc (suc zero)) l h d = refl
-number_of_rule (suc (suc (suc zero))) l h d = refl
-number_of_rule (suc (suc (suc (suc zero)))) l h d = refl
-number_of_rule (suc (suc (suc (suc (suc zero))))) l h d = refl
-number_of_rule (suc (suc (suc (suc (suc (suc zero)))))) l h d = refl
-number_of_rule (suc (suc (suc (suc (suc (suc (suc zero))))))) l h d = refl
-number_of_rule (suc (suc (suc (suc (suc (suc (suc (suc zero)))))))) l h d = absurd (d refl)
-number_of_rule (suc (suc (suc (suc (suc (suc (suc (suc (suc zero))))))))) l h d = refl
-number_of_rule (suc (suc (suc (suc (suc (suc (suc (suc (suc (suc zero)))))))))) l h d = refl
-number_of_rule (suc (suc (suc (suc (suc (suc (suc (suc (suc (suc (suc zero))))))))))) l h d = refl
-number_of_rule (suc (suc (suc (suc (suc (suc (suc (suc (suc (suc (suc (suc zero)))))))))))) l h d = refl
-number_of_rule (suc (suc (suc (suc (suc (suc (suc (suc (suc (suc (suc (suc (suc zero))))))))))))) l h d = refl
-number_of_rule (suc (suc (suc (suc (suc (suc (suc (suc (suc (suc (suc (suc (suc (suc zero)))))))))))))) l h d = refl
-number_of_rule (suc (suc (suc (suc (suc (suc (suc (suc (suc (suc (suc (suc (suc (suc (suc n))))))))))))))) l h d = omega (arith, h)
+number_of_rule n l h d = grind (arith, nat_tests)
