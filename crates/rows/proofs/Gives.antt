@@ -7,12 +7,15 @@ use mathlib.Core.Option.{Option, none, some}
 use Prim.Native.Nat.{ℕ, ◌+◌, ◌-◌, ◌/◌, ◌<◌, ◌≤◌, max}
 use native.Mathlib.Nat.{sub-zero}
 use native.Mathlib.Omega.{arith}
-use lib.IntN.{ℤ, pos, ◌+ℤ◌, zero-*ℤ}
+use lib.IntN.{ℤ, pos, ◌+ℤ◌, ◌*ℤ◌, zero-*ℤ}
 use lib.ListN.{length}
 use Rattle.std.specs.Prelude.{Result, Ok, Err, Some, None}
 use Rattle.std.specs.Result.{result_ok}
 use Rattle.numbers.specs.Whole.{eq_z, within}
 use Rattle.numbers.specs.declared.Member.{Member}
+use Rattle.numbers.specs.declared.Units.{Units}
+use Rattle.numbers.specs.declared.Price.{Price}
+use Rattle.numbers.specs.declared.Slope.{Slope}
 use Rattle.numbers.proofs.Signs.{up, dn, added, equal, le_to, le_from}
 use Rattle.numbers.proofs.Tests.{true_false, bool_cases, eq_z_same, eq_z_other, within_true, true_within}
 use Rattle.problem.specs.Problem as P
@@ -27,7 +30,8 @@ use Rattle.records.specs.Records.Entry.{link, offer, begins, fault}
 use Rattle.records.specs.inner.Cases.{terms_in, reading_of}
 use Rattle.records.specs.Market.{offers_of}
 use Rattle.records.proofs.Entries.{rest, ended, offer_is, not_offer, kind_6, Fits, MemberIs, Known, entry_known, by_record}
-use Rattle.rows.specs.declared.Span.{Span}
+use Rattle.rows.specs.declared.span.Span.{Span}
+use Rattle.rows.specs.inner.Lines.{Ranged}
 use Rattle.rows.specs.inner.Rows.{given, spanned, cell_in, Offers}
 use Rattle.rows.proofs.Prices.{cell_higher, cell_top}
 
@@ -142,9 +146,12 @@ module _ (f : List ℕ) (i : ℕ) where
             ap (λ (z : Entry). cell_of 1000000 (value (offers_of (z ∷ [])) j x)) entry_is
             ∙ its_offer j x (record { member = m.0; terms = terms_in t }) (known.member_is ∙ h)
 
+        pub terms_limited : (x : ℤ) → Limited 1000000 (worth (terms_in t) x)
+        terms_limited = known.fits.worths
+
         pub an_offer : (j : ℕ) → byte f i 1 ≡ j → (s : Span) → ((x : ℤ) → worth (terms_in t) x ≡ worth (spanned s) x) → Offers (given f i j) (Some s)
         unfolding cell_in
-        an_offer j h s same = (λ x. subst (Limited 1000000) (same x) (known.fits.worths x), λ x. gives j h x ∙ ap (cell_of 1000000) (same x))
+        an_offer j h s same = λ x. gives j h x ∙ ap (cell_of 1000000) (same x)
 
 -- ---- a point is a span of its own units alone
 alone : (u x : ℤ) → eq_z x u ≡ within u u x
@@ -153,6 +160,23 @@ alone u x =
     (λ w. eq_z_same x u (equal x u (omega (arith, le_to (within_true u u x w).0, le_to (within_true u u x w).1))))
     (λ w. eq_z_other x u (λ e. true_false (sym (true_within u u x (le_from u x (omega (arith, ap up e, ap dn e))) (le_from x u (omega (arith, ap up e, ap dn e)))) ∙ w)))
 
-pub point_spanned : (u p x : ℤ) → worth (P.Terms.point u p) x ≡ worth (P.Terms.span u u (pos 0) p) x
+point_spanned : (u p x : ℤ) → worth (P.Terms.point u p) x ≡ worth (P.Terms.span u u (pos 0) p) x
 unfolding worth
 point_spanned u p x = rw (zero-*ℤ x) (ap₂ (λ (t : Bool) (q : ℤ). cond t (some q) none) (alone u x) (equal p (pos 0 +ℤ p) (omega (arith, added (pos 0) p))))
+
+-- ---- the line that an offer's terms are
+module _ (t : Terms) where
+  pub point_is : (u : Units) (p : Price) → t ≡ Terms.Point u p → (x : ℤ) → worth (terms_in t) x ≡ worth (P.Terms.span u.0 u.0 (pos 0) p.0) x
+  unfolding terms_in
+  point_is u p e x = rw e (point_spanned u.0 p.0 x)
+
+  pub span_is : (l u : Units) (a : Slope) (b : Price) → t ≡ Terms.Span l u a b → (x : ℤ) → worth (terms_in t) x ≡ worth (P.Terms.span l.0 u.0 a.0 b.0) x
+  unfolding terms_in
+  span_is l u a b e x = rw e refl
+
+  pub terms_ranged : (l u a b : ℤ) → ((x : ℤ) → worth (terms_in t) x ≡ worth (P.Terms.span l u a b) x) → ((x : ℤ) → Limited 1000000 (worth (terms_in t) x)) → Ranged l u a b
+  unfolding worth
+  terms_ranged l u a b same h x e =
+      let q : Limited 1000000 (cond (within l u x) (some ((a *ℤ x) +ℤ b)) none) = subst (Limited 1000000) (same x) (h x) in
+      let r = rw e at q in
+      true_within _ _ _ r.0 r.1

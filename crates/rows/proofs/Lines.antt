@@ -1,25 +1,25 @@
 -- A span taken into a row, cell by cell: which cells it covers, and what each of them becomes. Assumes nothing.
 use mathlib.Core.Path.{◌≡◌, refl, sym, ap, ◌∙◌, subst}
-use mathlib.Core.Bool.{Bool, true, false, cond, ◌&&◌}
+use mathlib.Core.Bool.{Bool, true, false, ◌&&◌}
 use mathlib.Core.List.{List}
-use mathlib.Core.Option.{none, some}
+use mathlib.Core.Option.{some}
 use Prim.Native.Nat.{ℕ, ◌+◌, ◌^◌, ◌≤◌, ◌<◌, max}
 use native.Mathlib.Omega.{arith}
 use lib.Dec.{leb, ltb, eqb}
-use lib.IntN.{ℤ, pos, neg_ℤ, nat_abs, ◌+ℤ◌, ◌-ℤ◌, ◌*ℤ◌}
+use lib.IntN.{ℤ, pos, nat_abs, ◌+ℤ◌, ◌-ℤ◌, ◌*ℤ◌}
 use lib.ListN.{length, get_or, set, length-set}
 use lib.Seq.{get_or-set_same, get_or-set_other}
 use lib.Signed.{le_z}
 use borrow.Author.Tests.{le-leb, lt-leb, lt-ltb, le-ltb, ltb-true, ltb-false, eqb-true, eqb-false}
 use Rattle.numbers.specs.Whole.{within}
 use Rattle.numbers.proofs.Signs.{up, dn, added, taken, up_neg, dn_neg, equal, le_to}
-use Rattle.numbers.proofs.Tests.{bool_cases, true_within}
+use Rattle.numbers.proofs.Tests.{bool_cases, within_true}
 use Rattle.numbers.proofs.Times.{abs_parts, times_less}
 use Rattle.problem.specs.Problem.{worth}
 use Rattle.problem.proofs.Choices.{apart}
-use Rattle.problem.proofs.Prices.{cell_of, Limited}
-use Rattle.rows.specs.declared.Span.{Span}
-use Rattle.rows.specs.inner.Rows.{cell_in, Ranged}
+use Rattle.problem.proofs.Prices.{cell_of}
+use Rattle.rows.specs.declared.span.Span.{Span}
+use Rattle.rows.specs.inner.Rows.{cell_in}
 
 -- the price on a span's line for x units
 abbrev pub on_line : Span → ℤ → ℤ
@@ -48,16 +48,9 @@ module _ (s : Span) where
     unfolding cell_in worth
     inside = rw e refl
 
-    line_limited : Ranged s → Limited 1000000 (some (on_line s x))
-    unfolding worth
-    line_limited r = let h : Limited 1000000 (cond (within s.low.0 s.high.0 x) (some (on_line s x)) none) = r x in rw e at h
-
-    pub line_within : Ranged s → within (neg_ℤ (pos 1000000)) (pos 1000000) (on_line s x) ≡ true
-    line_within r = let l = line_limited r in true_within _ _ _ l.0 l.1
-
-    pub line_small : Ranged s → nat_abs (on_line s x) < 2 ^ 62
-    line_small r =
-        let l = line_limited r in
+    pub line_small : nat_abs (on_line s x) < 2 ^ 62
+    line_small =
+        let l = within_true _ _ _ (s.ranged x e) in
         omega (arith, apart (on_line s x), abs_parts (on_line s x), le_to l.0, le_to l.1, up_neg (pos 1000000), dn_neg (pos 1000000))
 
 -- ---- where a span starts and ends in a row whose cell 0 is for t units

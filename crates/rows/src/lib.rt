@@ -14,10 +14,14 @@ ghost use Rattle.problem.proofs.Prices.{cell_of};
 ghost use Rattle.records.specs.Records.{entries};
 ghost use Rattle.records.specs.Market.{offers_of};
 ghost use Rattle.records.specs.inner.Cases.{terms_in};
-ghost use Rattle.rows.specs.inner.Rows.{given, spanned, cell_in, Ranged, Offers, worth_of, meets, Combined};
+ghost use Rattle.rows.specs.inner.Rows.{given, Offers, worth_of, meets, Combined};
 
-use numbers::{Amount, Member, Price, Slope, Units, Whole};
-use records::{Record, Terms};
+use numbers::{Amount, Member, Price, Units, Whole};
+use records::{Kind, Record};
+
+mod span;
+
+use span::Span;
 
 // The cell of an amount that is in a price's range.
 fn cell_of(p: Amount) -> u32
@@ -32,37 +36,8 @@ pub fn total_of(best: u32, n: u8) -> Price
     requires { (1 ≤ best) × (best ≤ 2 ^ 31) }
     ensures { result.0 ≡ pos (best - 1) -ℤ pos (n * 1000000) }
 {
-    let shift = n as u32 * 1000000;
-    Price((best - 1) as i32 - shift as i32)
-}
-
-// A line of prices over each number of units from low to high: slope times units plus base.
-#[derive(Clone, Copy)]
-struct Span {
-    low: Units,
-    high: Units,
-    slope: Slope,
-    base: Price,
-}
-
-// An offer as a span: a point is a span of its own units alone, with slope 0.
-fn as_span(t: Terms) -> Span
-    ensures { (x : ℤ) → worth (terms_in t) x ≡ worth (spanned result) x }
-{
-    match t {
-        Terms::Point(units, price) => Span {
-            low: units,
-            high: units,
-            slope: Slope(0),
-            base: price,
-        },
-        Terms::Span(low, high, slope, base) => Span {
-            low,
-            high,
-            slope,
-            base,
-        },
-    }
+    let shift = i32::from(n) * 1000000;
+    Price((best - 1) as i32 - shift)
 }
 
 // What record i offers member j. A record of another member, or one that only begins a span, is not read any further.
@@ -70,25 +45,13 @@ fn offer_at(records: &[u8], i: usize, j: Member) -> Option<Span>
     requires { 8 * i + 8 ≤ length records.now }
     ensures { Offers (given records.now i j.0) result }
 {
-    if records[8 * i + 1] != j.0 || records[8 * i] == 6 {
+    if records[8 * i + 1] != j.0 || records[8 * i] == Kind::Begin as u8 {
         return None;
     }
     let Record::Offer(_, t) = records::read_at(records, i).ok()? else {
         return None;
     };
-    Some(as_span(t))
-}
-
-// The cell that a span gives for x units.
-fn cell_in(s: Span, x: Units) -> u32
-    requires { Ranged s }
-    ensures { result ≡ cell_in s x.0 }
-{
-    if x.within(s.low, s.high) {
-        cell_of(s.slope.amount(x, s.base))
-    } else {
-        0
-    }
+    Some(Span::of(t))
 }
 
 // The cell that member j's table gives for x units.
@@ -98,7 +61,7 @@ fn cell_at(records: &[u8], j: Member, x: Units) -> u32
     let mut best: u32 = 0;
     for i in 0..records.len() / 8 {
         if let Some(s) = offer_at(records, i, j) {
-            best = best.max(cell_in(s, x));
+            best = best.max(s.cell(x));
         }
     }
     best
@@ -114,41 +77,6 @@ pub fn value_of(records: &[u8], j: Member, x: Units) -> Option<Price>
     }
 }
 
-// The place of u units in a row whose cell 0 is for top units.
-fn place_of(top: Units, u: Units) -> usize
-    requires { u.0 ≤ℤ top.0 }
-    ensures { pos result ≡ top.0 -ℤ u.0 }
-{
-    (top.number() - u.number()) as usize
-}
-
-// How many of n cells are for at least `low` units, in a row whose cell 0 is for top units.
-fn cells_to(top: Units, low: Units, n: usize) -> usize
-    ensures { (result ≤ n) × ((x : ℕ) → x < n → le_z low.0 (top.0 -ℤ pos x) ≡ ltb x result) }
-{
-    if top < low {
-        return 0;
-    }
-    let end = place_of(top, low) + 1;
-    end.min(n)
-}
-
-// A span taken into a row whose cell x is for top - x units: each cell that it covers becomes the higher of what it holds and
-// what the span gives, which falls by the slope from cell to cell, the units falling by one.
-fn put_span(s: Span, top: Units, row: &mut [u32])
-    requires { Ranged s }
-    ensures { (x : ℕ) → x < length row.old → get_or row.new x 0 ≡ max (get_or row.old x 0) (cell_in s (top.0 -ℤ pos x)) }
-{
-    let first = s.high.min(top);
-    let start = place_of(top, first);
-    let end = cells_to(top, s.low, row.len());
-    let mut p = s.slope.amount(first, s.base);
-    for x in start..end {
-        row[x] = row[x].max(cell_of(p));
-        p = p.less(s.slope);
-    }
-}
-
 // Member j's own row: cell x is what its table gives for top - x units.
 pub fn own_row(records: &[u8], j: Member, top: Units, row: &mut [u32])
     ensures { (x : ℕ) → x < length row.old → get_or row.new x 0 ≡ cell_of 1000000 (value (offers_of (entries records.now)) j.0 (top.0 -ℤ pos x)) }
@@ -156,7 +84,7 @@ pub fn own_row(records: &[u8], j: Member, top: Units, row: &mut [u32])
     row.fill(0);
     for i in 0..records.len() / 8 {
         if let Some(s) = offer_at(records, i, j) {
-            put_span(s, top, row);
+            s.put(top, row);
         }
     }
 }

@@ -13,7 +13,7 @@ pub loop-i-preserved : goal.loop-i-preserved
 loop-i-preserved c =
     c.loop-i.invariant ∙ left_more _ _ _ _ _ _ _ c.loop-i-test.true
     (elim c.match-offer_at.branch [
-      | in-Some w ↦ omega (arith, w.in-Some.ensures.1 c.args.x.0)
+      | in-Some w ↦ omega (arith, w.in-Some.ensures c.args.x.0)
       | in_default w ↦ omega (arith, w.in_default.ensures c.args.x.0)
     ])
 

@@ -17,7 +17,7 @@ pub loop-i-preserved : goal.loop-i-preserved
 loop-i-preserved c =
     λ x h. c.loop-i.invariant x (omega (arith, c.match-offer_at.auto.row)) ∙ left_more _ _ _ _ _ _ _ c.loop-i-test.true
     (elim c.match-offer_at.branch [
-      | in-Some w ↦ omega (arith, ap (λ (r : List ℕ). get_or r x 0) w.row-is, w.put_span.ensures x (omega (arith, c.match-offer_at.auto.row)), w.in-Some.ensures.1 (c.args.top.0 -ℤ pos x))
+      | in-Some w ↦ omega (arith, ap (λ (r : List ℕ). get_or r x 0) w.row-is, w.put.ensures x (omega (arith, c.match-offer_at.auto.row)), w.in-Some.ensures (c.args.top.0 -ℤ pos x))
       | in_default w ↦ omega (arith, ap (λ (r : List ℕ). get_or r x 0) w.row-is, w.in_default.ensures (c.args.top.0 -ℤ pos x))
     ])
 

@@ -6,10 +6,10 @@ use Rattle.numbers.specs.inner.Held.{price}
 use Rattle.problem.specs.Problem.{Terms, worth, value}
 use Rattle.problem.proofs.Cell.{◌⊕◌}
 use Rattle.problem.proofs.Max.{max_to, argmax}
-use Rattle.problem.proofs.Prices.{cell_of, Limited}
+use Rattle.problem.proofs.Prices.{cell_of}
 use Rattle.records.specs.Records.{entry_at}
 use Rattle.records.specs.Market.{offers_of}
-use Rattle.rows.specs.declared.Span.{Span}
+use Rattle.rows.specs.declared.span.Span.{Span}
 
 -- the cell that record i alone gives member j for x units
 unfoldable pub given : List ℕ → ℕ → ℕ → ℤ → ℕ
@@ -23,14 +23,10 @@ spanned s = Terms.span s.low.0 s.high.0 s.slope.0 s.base.0
 unfoldable pub cell_in : Span → ℤ → ℕ
 cell_in s x = cell_of 1000000 (worth (spanned s) x)
 
--- all that a span is worth is in a price's range
-abbrev pub Ranged : Span → Type 0
-Ranged s = (x : ℤ) → Limited 1000000 (worth (spanned s) x)
-
 -- what gives the cell g x for x units is this span, or nothing
 abbrev pub Offers : (ℤ → ℕ) → Option Span → Type 0
 Offers g None = (x : ℤ) → g x ≡ 0
-Offers g (Some s) = Ranged s × ((x : ℤ) → g x ≡ cell_in s x)
+Offers g (Some s) = (x : ℤ) → g x ≡ cell_in s x
 
 -- the worth that a table gives
 abbrev pub worth_of : Maybe.Option ℤ → Option Price
