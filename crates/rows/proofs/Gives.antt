@@ -1,12 +1,13 @@
 -- What a file's records give a member for some units, as cells: the highest of what each gives; and what one record offers, as
 -- a span. Assumes nothing.
-use mathlib.Core.Path.{◌≡◌, refl, sym, ap, ap₂, subst, ◌∙◌}
-use mathlib.Core.Bool.{Bool, cond}
+use mathlib.Core.Path.{◌≡◌, refl, sym, ap, subst, ◌∙◌}
+use mathlib.Core.Bool.{cond}
 use mathlib.Core.List.{List, [], ◌∷◌}
 use mathlib.Core.Option.{Option, none, some}
 use Prim.Native.Nat.{ℕ, ◌+◌, ◌-◌, ◌/◌, ◌<◌, ◌≤◌, max}
 use native.Mathlib.Nat.{sub-zero}
 use native.Mathlib.Omega.{arith}
+use Rattle.std.proofs.lemmas.Int.{ints}
 use lib.IntN.{ℤ, pos, ◌+ℤ◌, ◌*ℤ◌, zero-*ℤ}
 use lib.ListN.{length}
 use Rattle.std.specs.Prelude.{Result, Ok, Err, Some, None}
@@ -16,8 +17,7 @@ use Rattle.numbers.specs.declared.Member.{Member}
 use Rattle.numbers.specs.declared.Units.{Units}
 use Rattle.numbers.specs.declared.Price.{Price}
 use Rattle.numbers.specs.declared.Slope.{Slope}
-use Rattle.numbers.proofs.Signs.{up, dn, added, equal, le_to, le_from}
-use Rattle.numbers.proofs.Tests.{true_false, bool_cases, eq_z_same, eq_z_other, within_true, true_within}
+use Rattle.numbers.proofs.Tests.{true_within}
 use Rattle.problem.specs.Problem as P
 use Rattle.problem.specs.Problem.{Offer, worth, offered, higher, value}
 use Rattle.problem.proofs.Prices.{cell_of, Low, Limited, limited_low, Worths, Priced, worths_map, value_keeps}
@@ -155,14 +155,12 @@ module _ (f : List ℕ) (i : ℕ) where
 
 -- ---- a point is a span of its own units alone
 alone : (u x : ℤ) → eq_z x u ≡ within u u x
-alone u x =
-    bool_cases (within u u x) (λ t. eq_z x u ≡ t)
-    (λ w. eq_z_same x u (equal x u (omega (arith, le_to (within_true u u x w).0, le_to (within_true u u x w).1))))
-    (λ w. eq_z_other x u (λ e. true_false (sym (true_within u u x (le_from u x (omega (arith, ap up e, ap dn e))) (le_from x u (omega (arith, ap up e, ap dn e)))) ∙ w)))
+unfolding within eq_z
+alone u x = grind (arith, ints)
 
 point_spanned : (u p x : ℤ) → worth (P.Terms.point u p) x ≡ worth (P.Terms.span u u (pos 0) p) x
 unfolding worth
-point_spanned u p x = rw (zero-*ℤ x) (ap₂ (λ (t : Bool) (q : ℤ). cond t (some q) none) (alone u x) (equal p (pos 0 +ℤ p) (omega (arith, added (pos 0) p))))
+point_spanned u p x = rw (zero-*ℤ x, alone u x) (ap (λ (q : ℤ). cond (within u u x) (some q) none) (omega (arith, ints)))
 
 -- ---- the line that an offer's terms are
 module _ (t : Terms) where

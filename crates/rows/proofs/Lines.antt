@@ -1,22 +1,23 @@
 -- A span taken into a row, cell by cell: which cells it covers, and what each of them becomes. Assumes nothing.
-use mathlib.Core.Path.{◌≡◌, refl, sym, ap, ◌∙◌, subst}
-use mathlib.Core.Bool.{Bool, true, false, ◌&&◌}
+use mathlib.Core.Path.{◌≡◌, refl, sym, ap, ◌∙◌}
+use mathlib.Core.Bool.{true, false, ◌&&◌}
 use mathlib.Core.List.{List}
+use Rattle.std.proofs.Math.Bool.{and-false}
 use mathlib.Core.Option.{some}
+use Rattle.std.proofs.lemmas.Int.{ints}
 use Prim.Native.Nat.{ℕ, ◌+◌, ◌^◌, ◌≤◌, ◌<◌, max}
 use native.Mathlib.Omega.{arith}
-use lib.Dec.{leb, ltb, eqb}
+use lib.Dec.{leb, ltb}
 use lib.IntN.{ℤ, pos, nat_abs, ◌+ℤ◌, ◌-ℤ◌, ◌*ℤ◌}
 use lib.ListN.{length, get_or, set, length-set}
 use lib.Seq.{get_or-set_same, get_or-set_other}
 use lib.Signed.{le_z}
-use borrow.Author.Tests.{le-leb, lt-leb, lt-ltb, le-ltb, ltb-true, ltb-false, eqb-true, eqb-false}
+use borrow.Author.Count.{below_more}
+use borrow.Author.Tests.{le-leb, lt-leb, lt-ltb, le-ltb, ltb-true, ltb-false}
 use Rattle.numbers.specs.Whole.{within}
-use Rattle.numbers.proofs.Signs.{up, dn, added, taken, up_neg, dn_neg, equal, le_to}
 use Rattle.numbers.proofs.Tests.{bool_cases, within_true}
-use Rattle.numbers.proofs.Times.{abs_parts, times_less}
+use Rattle.numbers.proofs.Times.{times_less}
 use Rattle.problem.specs.Problem.{worth}
-use Rattle.problem.proofs.Choices.{apart}
 use Rattle.problem.proofs.Prices.{cell_of}
 use Rattle.rows.specs.declared.span.Span.{Span}
 use Rattle.rows.specs.inner.Rows.{cell_in}
@@ -25,18 +26,11 @@ use Rattle.rows.specs.inner.Rows.{cell_in}
 abbrev pub on_line : Span → ℤ → ℤ
 on_line s x = (s.slope.0 *ℤ x) +ℤ s.base.0
 
-one_less : (t : ℤ) (x : ℕ) → t -ℤ pos (x + 1) ≡ (t -ℤ pos x) -ℤ pos 1
-one_less t x = equal (t -ℤ pos (x + 1)) ((t -ℤ pos x) -ℤ pos 1) (omega (arith, taken t (pos (x + 1)), taken (t -ℤ pos x) (pos 1), taken t (pos x)))
-
-swapped : (a b c : ℤ) → (a -ℤ b) +ℤ c ≡ (a +ℤ c) -ℤ b
-swapped a b c = equal ((a -ℤ b) +ℤ c) ((a +ℤ c) -ℤ b) (omega (arith, added (a -ℤ b) c, taken a b, taken (a +ℤ c) b, added a c))
-
 -- from cell to cell the price falls by the slope
 line_less : (s : Span) (t : ℤ) (x : ℕ) → on_line s (t -ℤ pos x) -ℤ s.slope.0 ≡ on_line s (t -ℤ pos (x + 1))
 line_less s t x =
-    sym
-    (ap (λ (z : ℤ). on_line s z) (one_less t x) ∙ ap (λ (z : ℤ). z +ℤ s.base.0) (times_less s.slope.0 (t -ℤ pos x))
-    ∙ swapped (s.slope.0 *ℤ (t -ℤ pos x)) s.slope.0 s.base.0)
+    let e : t -ℤ pos (x + 1) ≡ (t -ℤ pos x) -ℤ pos 1 = omega (arith, ints) in
+    rw e (omega (arith, ints, times_less s.slope.0 (t -ℤ pos x)))
 
 module _ (s : Span) where
   pub outside : (x : ℤ) → within s.low.0 s.high.0 x ≡ false → cell_in s x ≡ 0
@@ -49,14 +43,12 @@ module _ (s : Span) where
     inside = rw e refl
 
     pub line_small : nat_abs (on_line s x) < 2 ^ 62
-    line_small =
-        let l = within_true _ _ _ (s.ranged x e) in
-        omega (arith, apart (on_line s x), abs_parts (on_line s x), le_to l.0, le_to l.1, up_neg (pos 1000000), dn_neg (pos 1000000))
+    line_small = let l = within_true _ _ _ (s.ranged x e) in omega (arith, ints)
 
 -- ---- where a span starts and ends in a row whose cell 0 is for t units
 
 pub exchanged : (a b c : ℤ) → a -ℤ b ≡ c → b ≡ a -ℤ c
-exchanged a b c e = equal b (a -ℤ c) (omega (arith, taken a c, taken a b, ap up e, ap dn e))
+exchanged a b c e = omega (arith, ints)
 
 -- the cells of a row of n from `from` on that are below `end`
 pub record Covered (s : Span) (top : ℤ) (n from end : ℕ) : Type 0 where
@@ -73,11 +65,7 @@ module _ (s : Span) (top : ℤ) (n from end : ℕ) (C : Covered s top n from end
   covered h k = covers (omega (arith, C.short)) ∙ rw (lt-ltb x end k, le-leb from x h) refl
 
   before : x < n → x < from → cell_in s (top -ℤ pos x) ≡ 0
-  before l h = outside s (top -ℤ pos x) (covers l ∙ rw (lt-leb from x h) (none_first (ltb x end)))
-    where
-      none_first : (t : Bool) → t && false ≡ false
-      none_first true = refl
-      none_first false = refl
+  before l h = outside s (top -ℤ pos x) (covers l ∙ rw (lt-leb from x h) (and-false (ltb x end)))
 
   after : x < n → end ≤ x → cell_in s (top -ℤ pos x) ≡ 0
   after l h = outside s (top -ℤ pos x) (covers l ∙ rw (le-ltb x end h) refl)
@@ -106,9 +94,7 @@ module _ (s : Span) (top : ℤ) (row₀ : List ℕ) (from end : ℕ) (C : Covere
       same = length-set row x c ∙ I.same;
       past = omega (arith, I.past);
       price = f ∙ ap (λ (z : ℤ). z -ℤ s.slope.0) I.price ∙ line_less s top x;
-      put = λ y k b. bool_cases (eqb y x) (λ t. get_or (set row x c) y 0 ≡ max (get_or row₀ y 0) (cell_in s (top -ℤ pos y)))
-          (λ t. subst (λ (z : ℕ). get_or (set row x c) z 0 ≡ max (get_or row₀ z 0) (cell_in s (top -ℤ pos z))) (sym (eqb-true y x t)) at_x)
-          (λ t. get_or-set_other row x y c 0 (eqb-false y x t) ∙ I.put y (omega (arith, eqb-false y x t)) b);
+      put = below_more (λ y. y < length row₀ → get_or (set row x c) y 0 ≡ max (get_or row₀ y 0) (cell_in s (top -ℤ pos y))) x (λ y k b. get_or-set_other row x y c 0 (omega arith) ∙ I.put y k b) (λ b. at_x);
       left = λ y k. get_or-set_other row x y c 0 (λ r. omega arith) ∙ I.left y (omega arith);
     }
       where

@@ -1,35 +1,26 @@
 -- A price as a cell: cells keep the order of prices, and a cell that is not none gives its price back. Assumes nothing.
-use mathlib.Core.Path.{◌≡◌, refl, sym, ap, ◌∙◌}
-use mathlib.Core.Bool.{cond}
+use mathlib.Core.Path.{◌≡◌, refl, ap, ◌∙◌}
 use mathlib.Core.Option.{Option, none, some}
 use Prim.Native.Nat.{ℕ, suc, ◌+◌, ◌-◌, ◌≤◌, max}
 use native.Mathlib.Omega.{arith}
+use Rattle.std.proofs.lemmas.Int.{ints}
 use lib.IntN.{ℤ, pos, neg_ℤ, ◌+ℤ◌, ◌-ℤ◌}
-use lib.Signed.{le_z, lt_z, ◌≤ℤ◌}
-use denote.Floats.{passes}
-use borrow.Author.Tests.{not-false}
+use lib.Signed.{◌≤ℤ◌}
 use Rattle.std.specs.Prelude.{Some, None}
 use Rattle.numbers.specs.declared.Price.{Price}
 use Rattle.numbers.specs.inner.Held.{price}
-use Rattle.numbers.proofs.Signs.{up, dn, added, taken, up_neg, dn_neg, equal, le_to, lt_to}
-use Rattle.numbers.proofs.Tests.{bool_cases, le_z_lt_z}
+use Rattle.numbers.proofs.Signs.{up, added, taken, up_neg, dn_neg, equal, le_to}
 use Rattle.problem.specs.Problem.{higher}
 use Rattle.problem.proofs.Choices.{apart}
 use Rattle.problem.proofs.Prices.{cell_of, Limited}
 use Rattle.rows.specs.inner.Rows.{worth_of}
 
 -- ---- cells keep the order of prices
-cell_le : (B : ℕ) (p q : ℤ) → up p + dn q ≤ dn p + up q → up (p +ℤ pos B) ≤ up (q +ℤ pos B)
-cell_le B p q h = omega (arith, added p (pos B), added q (pos B), apart (p +ℤ pos B), apart (q +ℤ pos B))
-
 pub cell_higher : (B : ℕ) (u v : Option ℤ) → cell_of B (higher u v) ≡ max (cell_of B u) (cell_of B v)
 unfolding cell_of higher
 cell_higher B none v = omega arith
 cell_higher B (some p) none = omega arith
-cell_higher B (some p) (some q) =
-    bool_cases (le_z q p) (λ t. suc (up (cond t p q +ℤ pos B)) ≡ max (suc (up (p +ℤ pos B))) (suc (up (q +ℤ pos B))))
-    (λ e. omega (arith, cell_le B q p (le_to {a = q} {b = p} (record { le = passes (le_z q p) e }))))
-    (λ e. omega (arith, cell_le B p q (omega (arith, lt_to {a = p} {b = q} (record { lt = passes (lt_z p q) (not-false (lt_z p q) (sym (le_z_lt_z p q) ∙ e)) })))))
+cell_higher B (some p) (some q) = grind (arith, ints)
 
 -- ---- the cell of a price in range
 pub cell_is : (B : ℕ) (p : ℤ) → neg_ℤ (pos B) ≤ℤ p → p +ℤ pos (suc B) ≡ pos (cell_of B (some p))

@@ -1,12 +1,12 @@
 -- Sums of cells, and turns of the search for a cell's best and of the pass over a row. Assumes nothing.
-use mathlib.Core.Path.{◌≡◌, refl, sym, ap, subst, ◌∙◌}
+use mathlib.Core.Path.{◌≡◌, refl, ap, ◌∙◌}
 use mathlib.Core.List.{List}
 use mathlib.Core.Logic.{◌⊎◌, inl, inr}
 use Prim.Native.Nat.{ℕ, zero, suc, ◌+◌, ◌-◌, ◌<◌, ◌≤◌}
-use native.Mathlib.Nat.{eq-or-lt_of_le}
 use native.Mathlib.Omega.{arith}
 use lib.ListN.{length, get_or, set, length-set}
 use lib.Seq.{get_or-set_same, get_or-set_other}
+use borrow.Author.Count.{below_more}
 use borrow.Author.Tests.{lt-ltb, le-ltb}
 use Rattle.problem.proofs.Cell.{◌⊕◌, ⊕_comm}
 use Rattle.problem.proofs.Max.{max_to, argmax}
@@ -49,11 +49,7 @@ pub record Made (f : ℕ → ℕ) (old row : List ℕ) (x : ℕ) : Type 0 where
 pub one_made : {f : ℕ → ℕ} {old row : List ℕ} {x v : ℕ} → Made f old row x → x < length row → v ≡ f x → Made f old (set row x v) (x + 1)
 one_made {f} {old} {row} {x} {v} m l e = record {
   len = simp length-set m.len;
-  cells = λ y h.
-      elim (eq-or-lt_of_le {n = y} {m = x} (omega arith)) [
-        | inl q ↦ subst (λ (t : ℕ). get_or (set row x v) t 0 ≡ f t) (sym q) (get_or-set_same row x v 0 l ∙ e)
-        | inr q ↦ get_or-set_other row x y v 0 (omega arith) ∙ m.cells y q
-      ];
+  cells = below_more _ _ (λ y h. get_or-set_other row x y v 0 (omega arith) ∙ m.cells y h) (get_or-set_same row x v 0 l ∙ e);
   past = λ y h. get_or-set_other row x y v 0 (omega arith) ∙ m.past y (omega arith);
 }
 
