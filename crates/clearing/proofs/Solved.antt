@@ -6,8 +6,8 @@ use native.Mathlib.Omega.{arith}
 use lib.Dec.{lit<}
 use lib.ListN.{length, get_or, drop}
 use lib.IntN.{ℤ, pos, ◌-ℤ◌}
-use Rattle.numbers.specs.inner.Held.{units_in}
-use Rattle.numbers.specs.declared.Units.{Units}
+use Rattle.std.specs.Prelude.{Err, IfNone}
+use Rattle.std.specs.Prelude as Std
 use Rattle.problem.specs.Problem.{Market, Offer, Best, value}
 use Rattle.problem.specs.Problem as P
 use Rattle.problem.proofs.Tree.{Tree}
@@ -26,11 +26,14 @@ use Rattle.records.specs.Records.{entries}
 use Rattle.records.specs.Market.{offers_of}
 use Rattle.records.specs.Answer.{answer_of}
 use Rattle.rows.proofs.Gives.{priced, cell_bound}
-use Rattle.engine.specs.inner.Words.{walk_of, top_of, own_of, Solved}
+use Rattle.records.specs.declared.Rule.TheVariants as Rule
+use Rattle.records.specs.inner.Cases.{number_of}
+use Rattle.engine.specs.declared.Solution.{Solution}
+use Rattle.engine.specs.inner.Words.{sent_in, walk_of, top_of, own_of, best_of, Solved}
 use Rattle.answer.specs.inner.Words.{Settles}
-use Rattle.clearing.specs.Outcome.{code, no_allocation, Outcome}
+use Rattle.clearing.specs.Outcome.{code, Outcome}
 use Rattle.clearing.specs.Outcome.Outcome.{nothing, cleared}
-use Rattle.clearing.specs.inner.Words.{Held}
+use Rattle.clearing.specs.inner.Words.{Held, returned}
 use Rattle.clearing.proofs.Agree.{run_same, picks_same, indices_same}
 
 module _ {m : Market} {f : Feeder} {records : List ℕ} (H : Held m f records) where
@@ -82,7 +85,7 @@ module _ {m : Market} {f : Feeder} {records : List ℕ} (H : Held m f records) w
   best_form =
       ap (λ (k : Walk). run k (f.members - 1) 1 0 0) (shape_is (own_of f os))
       ∙ run_same (parent m) (λ i. up_of m i + down_of m i) (λ i q. 1) (own_of f os) (form 1000000 m).row f.members rising own_is (f.members - 1) 1 0 0
-      (omega arith) (omega (arith, H.laid.sound.some)) (omega (arith, H.laid.sound.some))
+      (omega arith) (omega (arith, f.sound.some)) (omega (arith, f.sound.some))
       ∙ ap (λ (d : ℕ). run (form 1000000 m) d 1 0 0) links
 
   picks_form : picks K (f.members - 1) 1 start ≡ choices 1000000 m
@@ -90,7 +93,7 @@ module _ {m : Market} {f : Feeder} {records : List ℕ} (H : Held m f records) w
   picks_form =
       ap (λ (k : Walk). picks k (f.members - 1) 1 start) (shape_is (own_of f os))
       ∙ picks_same (parent m) (λ i. up_of m i + down_of m i) (λ i q. 1) (own_of f os) (form 1000000 m).row f.members rising own_is (f.members - 1) 1 start
-      (omega arith) (omega (arith, H.laid.sound.some))
+      (omega arith) (omega (arith, f.sound.some))
       ∙ ap (λ (d : ℕ). picks (form 1000000 m) d 1 start) links
 
   indices_form : (i : ℕ) → indices K 1 start (picks K (f.members - 1) 1 start) i ≡ indices (form 1000000 m) 1 start (choices 1000000 m) i
@@ -101,8 +104,18 @@ module _ {m : Market} {f : Feeder} {records : List ℕ} (H : Held m f records) w
 
   -- ---- the outcome
 
-  module _ {best : ℕ} {net sent : List Units} (S : Solved f (own_of f os) best net sent) where
+  pub nothing_left : (o : Std.Option Solution) → IfNone o (best_of f (own_of f os) ≡ 0) → ((s : Solution) → o ≡ Std.Some s → ⊥)
+      → (before : List ℕ) → Outcome m before (returned (Err (record { rule = Rule.Impossible; place = 0 }))) before
+  unfolding best_of code number_of
+  nothing_left Std.None z t before = nothing (clear_none 1000000 m R prices (sym best_form ∙ z))
+  nothing_left (Std.Some s) z t before = absurd (t s refl)
+
+  module _ {s : Solution} (S : Solved f (own_of f os) s) where
+    abbrev best : ℕ
+    best = s.best
+
     best_is : best ≡ C.best 1000000 m
+    unfolding best_of
     best_is = S.best_is ∙ best_form
 
     pub best_small : best ≤ 2 ^ 31
@@ -111,50 +124,46 @@ module _ {m : Market} {f : Feeder} {records : List ℕ} (H : Held m f records) w
         let k : Walk = form 1000000 m in
         let b : tab k f.members 1 0 0 ≤ suc (2000000 * f.members) =
         tab_bound k rising (λ i p. refl) f.members 2000000 (λ j x. subst (λ (o : List Offer). cell_of 1000000 (value o (member m j) (pos (C.top_of m j) -ℤ pos x)) ≤ 2000001) (sym H.tables) (cell_bound (member m j) (pos (C.top_of m j) -ℤ pos x) records))
-        1 0 0 (omega arith) (omega (arith, H.laid.sound.some)) (omega arith) in
+        1 0 0 (omega arith) (omega (arith, f.sound.some)) (omega arith) in
         let b' : C.best 1000000 m ≤ suc (2000000 * f.members) = subst (λ (d : ℕ). run k d 1 0 0 ≤ suc (2000000 * f.members)) links b in
-        omega (arith, best_is, H.laid.sound.few, lit< {m = 64000001} {n = 2 ^ 31} tt)
+        omega (arith, best_is, f.sound.few, lit< {m = 64000001} {n = 2 ^ 31} tt)
 
-    pub nothing_left : best ≡ 0 → (before : List ℕ) → Outcome m before (code no_allocation) before
-    nothing_left z before = nothing (clear_none 1000000 m R prices (sym best_is ∙ z))
+    abbrev ys : List ℤ
+    ys = flows_of m (choices 1000000 m)
 
-    module _ (z : best ≡ 0 → ⊥) where
-      abbrev ys : List ℤ
-      ys = flows_of m (choices 1000000 m)
+    abbrev t : ℤ
+    t = pos (best - 1) -ℤ pos (m.members * 1000000)
 
-      abbrev t : ℤ
-      t = pos (best - 1) -ℤ pos (m.members * 1000000)
+    best_found : Best m ys t
+    best_found = clear_some 1000000 m R prices (best - 1) (sym best_is ∙ omega (arith, S.some))
 
-      best_found : Best m ys t
-      best_found = clear_some 1000000 m R prices (best - 1) (sym best_is ∙ omega (arith, z))
+    -- what the engine leaves is those flows
+    pub settles : Settles m ys records f s.trades
+    settles = record {
+      laid = H.laid;
+      tables = H.tables;
+      within = best_found.possible.within;
+      nets = λ i l. S.nets i l ∙ ap₂ (λ (a b : ℕ). pos a -ℤ pos b) (top_is i) (indices_form i)
+          ∙ sym (net_at 1000000 m R prices (choices 1000000 m) (choices_fit 1000000 m R prices (λ e. omega (arith, S.some, best_is, e))) i (omega (arith, one_fewer m R, count)))
+          ∙ ap (λ (a : ℕ). P.net a m.links ys) (sym (H.laid.member_is i l));
+      first = S.sends 0 f.sound.some ∙ ap (λ (a : ℕ). pos 0 -ℤ pos a) f.sound.first.1;
+      sends = sent_is;
+    }
+      where
+        sent_is : (i : ℕ) → 1 ≤ i → i < f.members → sent_in s.trades i ≡ P.sent m.links ys (member_at f i) (member_at f (parent_at f i))
+        sent_is zero h l = absurd (omega arith)
+        sent_is (suc d) h l =
+            let e : d < length m.links = omega (arith, one_fewer m R, count) in
+            let k : parent m (suc d) < f.members = omega (arith, rising (suc d) (omega arith)) in
+            S.sends (suc d) l
+            ∙ ap₂ (λ (ps : List ℕ) (a : ℕ). pos (get_or ps d 0) -ℤ pos a) picks_form (H.laid.away_is (suc d))
+            ∙ sym (sends_at 1000000 m R prices (choices 1000000 m) d e)
+            ∙ sym (sent_place m.members m.links R.within ys (as_many best_found.possible.within) (member m (suc d)) (member m (parent m (suc d))) (near m R d (omega (arith, e, (steps m R).0))))
+            ∙ sym (ap₂ (P.sent m.links ys) (H.laid.member_is (suc d) l) (ap (member_at f) (H.laid.parent_is (suc d)) ∙ H.laid.member_is (parent m (suc d)) k))
 
-      -- what the engine leaves is those flows
-      pub settles : Settles m ys records f net sent
-      settles = record {
-        laid = H.laid;
-        tables = H.tables;
-        within = best_found.possible.within;
-        nets = λ i l. S.nets i l ∙ ap₂ (λ (a b : ℕ). pos a -ℤ pos b) (top_is i) (indices_form i)
-            ∙ sym (net_at 1000000 m R prices (choices 1000000 m) (choices_fit 1000000 m R prices (λ e. z (best_is ∙ e))) i (omega (arith, one_fewer m R, count)))
-            ∙ ap (λ (a : ℕ). P.net a m.links ys) (sym (H.laid.member_is i l));
-        first = S.sends 0 H.laid.sound.some ∙ ap (λ (a : ℕ). pos 0 -ℤ pos a) H.laid.sound.first.1;
-        sends = sent_is;
-      }
-        where
-          sent_is : (i : ℕ) → 1 ≤ i → i < f.members → units_in sent i ≡ P.sent m.links ys (member_at f i) (member_at f (parent_at f i))
-          sent_is zero h l = absurd (omega arith)
-          sent_is (suc d) h l =
-              let e : d < length m.links = omega (arith, one_fewer m R, count) in
-              let k : parent m (suc d) < f.members = omega (arith, rising (suc d) (omega arith)) in
-              S.sends (suc d) l
-              ∙ ap₂ (λ (ps : List ℕ) (a : ℕ). pos (get_or ps d 0) -ℤ pos a) picks_form (H.laid.away_is (suc d))
-              ∙ sym (sends_at 1000000 m R prices (choices 1000000 m) d e)
-              ∙ sym (sent_place m.members m.links R.within ys (as_many best_found.possible.within) (member m (suc d)) (member m (parent m (suc d))) (near m R d (omega (arith, e, (steps m R).0))))
-              ∙ sym (ap₂ (P.sent m.links ys) (H.laid.member_is (suc d) l) (ap (member_at f) (H.laid.parent_is (suc d)) ∙ H.laid.member_is (parent m (suc d)) k))
-
-      pub cleared_left : (before after : List ℕ) (total : ℤ) → total ≡ pos (best - 1) -ℤ pos (f.members * 1000000)
-          → after ≡ answer_of m ys total ++ drop (16 * f.members) before → Outcome m before (16 * f.members) after
-      cleared_left before after total e h =
-          subst (λ (k : ℕ). Outcome m before (16 * k) after) (sym count)
-          (subst (Outcome m before (16 * m.members)) (sym (h ∙ ap₂ (λ (x : ℤ) (k : ℕ). answer_of m ys x ++ drop (16 * k) before) (e ∙ ap (λ (k : ℕ). pos (best - 1) -ℤ pos (k * 1000000)) count) count))
-          (cleared ys t best_found))
+    pub cleared_left : (before after : List ℕ) (total : ℤ) → total ≡ pos (best - 1) -ℤ pos (f.members * 1000000)
+        → after ≡ answer_of m ys total ++ drop (16 * f.members) before → Outcome m before (16 * f.members) after
+    cleared_left before after total e h =
+        subst (λ (k : ℕ). Outcome m before (16 * k) after) (sym count)
+        (subst (Outcome m before (16 * m.members)) (sym (h ∙ ap₂ (λ (x : ℤ) (k : ℕ). answer_of m ys x ++ drop (16 * k) before) (e ∙ ap (λ (k : ℕ). pos (best - 1) -ℤ pos (k * 1000000)) count) count))
+        (cleared ys t best_found))

@@ -1,45 +1,38 @@
 -- `clear` meets its contract: refusals 1 to 11, 13 and 14 leave the area as it was, and a sound file is a market that has its outcome.
-use mathlib.Core.Path.{◌≡◌, sym, ap, ◌∙◌, subst}
-use mathlib.Core.List.{List}
+use borrow.Author.Rules.{rules}
+use mathlib.Core.Path.{◌≡◌, sym, subst}
 use Prim.Native.Nat.{ℕ, ◌*◌}
 use native.Mathlib.Omega.{arith}
-use lib.ListN.{length}
+use Rattle.std.specs.Prelude as Std
+use Rattle.records.specs.declared.Refusal.{Refusal}
 use Rattle.records.specs.Market.{market_of}
-use Rattle.market.specs.Refusals.{file_refusal}
-use Rattle.market.proofs.Verdicts.{verdict_some}
-use Rattle.clearing.specs.Outcome.{code}
 use Rattle.clearing.specs.Promise.{Result}
-use Rattle.clearing.specs.Promise.Result.{refused, settled}
-use Rattle.clearing.proofs.Refused.{room_none, file_refused, short_refused, checked_verdict, checked_sound, checked_held}
+use Rattle.clearing.specs.Promise.Result.{settled}
+use Rattle.clearing.specs.inner.Words.{returned}
+use Rattle.clearing.proofs.Refused.{room_none, file_refused, short_refused, file_held}
 use Rattle.clearing.proofs.clear.Goals as goal
 
-pub returns-in-Refused : goal.returns-in-Refused
-returns-in-Refused c =
-    let f : List ℕ = c.args.file.now in
-    let area : List ℕ = c.args.answer.now in
-    let e = verdict_some (file_refusal f) _ _ _ (checked_verdict f _ c.market-checked.ensures) c.in-Refused.is in
-    subst (λ (k : ℕ). Result f area k area) (sym c.refusal.ensures) (refused _ (file_refused f (length area) _ e))
+pub returns-in_err-feeder-clause-promise : goal.returns-in_err-feeder-clause-promise
+returns-in_err-feeder-clause-promise c =
+    let f = c.args.file.now in
+    let area = c.args.answer.now in
+    let is : c.from_residual.result ≡ Std.Err c.in_err-feeder.field-0.0 = search rules in
+    subst (λ (r : Std.Result ℕ Refusal). Result f area (returned r) area) (sym is) (file_refused f area _ c.in_err-feeder.ensures)
 
-pub returns-then-short : goal.returns-then-short
-returns-then-short c =
-    let f : List ℕ = c.args.file.now in
-    let sound = checked_sound f _ c.market-checked.ensures c.in_default.not-Refused in
-    let held = checked_held f _ c.market-checked.ensures sound in
-    let area : List ℕ = c.args.answer.now in
-    let q : 16 * c.market-checked.result.feeder.members ≡ 16 * (market_of f).members = omega (arith, held.laid.members) in
-    subst (λ (k : ℕ). Result f area k area) (sym (c.refusal-then-short.ensures ∙ ap (λ (p : ℕ). code (record { number = 11; place = p })) q))
-    (refused _ (short_refused f (length area) sound (omega (arith, q, c.if-short.true))))
+pub returns-then-short-clause-promise : goal.returns-then-short-clause-promise
+returns-then-short-clause-promise c =
+    let f = c.args.file.now in
+    let ok = c.in_ok-feeder.ensures in
+    let size : 16 * c.in_ok-feeder.feeder.members ≡ 16 * (market_of f).members = omega (arith, ok.1.members) in
+    short_refused f c.args.answer.now _ ok.0 size c.if-short.true
 
-pub returns : goal.returns
-returns c =
-    let f : List ℕ = c.args.file.now in
-    let sound = checked_sound f _ c.market-checked.ensures c.in_default.not-Refused in
-    let held = checked_held f _ c.market-checked.ensures sound in
-    let q : 16 * c.market-checked.result.feeder.members ≡ 16 * (market_of f).members = omega (arith, held.laid.members) in
-    settled (room_none f _ sound (omega (arith, q, c.if-short.false))) (c.allocate.ensures _ held)
+pub returns-clause-promise : goal.returns-clause-promise
+returns-clause-promise c =
+    let f = c.args.file.now in
+    let ok = c.in_ok-feeder.ensures in
+    settled (room_none f _ ok.0 (omega (arith, ok.1.members, c.if-short.false))) (c.allocate.ensures.outcome _ (file_held f _ ok.0 ok.1))
 
 pub allocate-requires-clause-held : goal.allocate-requires-clause-held
 allocate-requires-clause-held c =
-    let f : List ℕ = c.args.file.now in
-    let sound = checked_sound f _ c.market-checked.ensures c.in_default.not-Refused in
-    (_, checked_held f _ c.market-checked.ensures sound)
+    let ok = c.in_ok-feeder.ensures in
+    (_, file_held c.args.file.now _ ok.0 ok.1)
