@@ -3,6 +3,8 @@
 // market; its exit status is 0 whatever that was.
 #![tactic(auto)]
 
+use anyhow::{Context, Result, bail};
+use print::Page;
 use std::env::FillError;
 use std::fs::OpenOptions;
 use std::io::{Read, Write};
@@ -11,44 +13,28 @@ use std::rt::{Env, Files};
 // Descriptor 3, as a file.
 const CALLER: &str = "/dev/fd/3";
 
-// What became of the market, as the digit that the caller is told.
-const CLEARED: u8 = b'0';
-
-const REFUSED: u8 = b'1';
-
-const NO_ANSWER: u8 = b'2';
-
-// The longest answer, 32 lines of at most 20 bytes, 31 of at most 17 and a last one, takes less than 1,200 bytes.
-const PAGE: usize = 2048;
-
-// Clears the market of a file, and writes its lines.
-fn answer<W: Write>(rt: &impl Eprint, output: &mut W, file: &[u8]) -> u8 {
-    let mut page = [0u8; PAGE];
-    let shown = show::lines(file, &mut page);
-    match streams::write(output, &page, shown.end) {
-        Ok(true) if shown.refused => REFUSED,
-        Ok(true) => CLEARED,
-        Ok(false) => {
-            let _ = eprintln!(rt; "clear: cannot write the answer: it is longer than its page");
-            NO_ANSWER
-        }
-        Err(error) => {
-            let _ = eprintln!(rt; "clear: cannot write the answer: {error}");
-            NO_ANSWER
-        }
-    }
+// What became of the market, by the digit that the caller is told.
+#[derive(Clone, Copy)]
+enum Outcome {
+    Cleared = 48,
+    Refused = 49,
+    NoAnswer = 50,
 }
 
-// Clears the market on standard input. A file of more than 33,016 bytes is read no further than to 33,024, which shows that
-// it is too long.
-fn clear<R: Read, W: Write>(rt: &impl Eprint, input: &mut R, output: &mut W) -> u8 {
+// Clears the market on the input and writes its lines. A file of more than 33,016 bytes is read no further than to 33,024, which
+// shows that it is too long. The longest answer, 32 lines of at most 20 bytes, 31 of at most 17 and a last one, takes less than
+// 1,200 of the page's bytes.
+fn clear<R: Read, W: Write>(input: &mut R, output: &mut W) -> Result<Outcome> {
     let mut file = [0u8; 33024];
-    match streams::read(input, &mut file) {
-        Ok(n) => answer(rt, output, &file[..n]),
-        Err(error) => {
-            let _ = eprintln!(rt; "clear: cannot read the market: {error}");
-            NO_ANSWER
-        }
+    let n = streams::read(input, &mut file).context("cannot read the market")?;
+    let mut page = Page::at([0u8; 2048], 0);
+    let cleared = show::lines(&file[..n], &mut page);
+    if !streams::write(output, &page.bytes, page.end).context("cannot write the answer")? {
+        bail!("cannot write the answer: it is longer than its page");
+    }
+    match cleared {
+        Ok(()) => Ok(Outcome::Cleared),
+        Err(_) => Ok(Outcome::Refused),
     }
 }
 
@@ -58,18 +44,21 @@ fn has_argument(env: &impl Env) -> bool {
 
 // Tells the caller, if there is one. The descriptor is opened again, to read too: a pipe that no one reads any more would not
 // open to write alone, and the program would wait for a reader.
-fn tell(files: &impl Files, outcome: u8) {
+fn tell(files: &impl Files, outcome: Outcome) {
     let opened = OpenOptions::new()
         .read(true)
         .append(true)
         .open(files, CALLER);
     if let Ok(mut caller) = opened {
-        let _ = caller.write_all(&[outcome]);
+        let _ = caller.write_all(&[outcome as u8]);
     }
 }
 
 fn main(rt: HostRuntime) {
-    let outcome = clear(&rt, &mut rt.stdin(), &mut rt.stdout());
+    let outcome = clear(&mut rt.stdin(), &mut rt.stdout()).unwrap_or_else(|error| {
+        let _ = eprintln!(rt; "clear: {error:#}");
+        Outcome::NoAnswer
+    });
     if has_argument(&rt) {
         tell(&rt, outcome);
     }

@@ -1,79 +1,59 @@
-// Text and numbers on a page that the caller lends. Each function puts its text on the page from a place on, as far as the
-// page goes, and gives the place after it. One rule: a page whose place reaches its end is full, and what did not fit is
-// lost; so whoever makes a page holds the last place against the page's length, once.
+// A page, and text and numbers put on it: each as far as the page goes, what does not fit is lost. One rule: a page whose
+// text reaches its end is full; so whoever makes a page holds the end of its text against the page's length, once.
 #![tactic(auto)]
 
-ghost use Rattle.std.specs.Prelude.{◌≡◌, min, pos, nat_abs};
-ghost use Rattle.io.specs.Counts.{IsPrefixLen};
-ghost use Rattle.print.specs.inner.Page.{Put, PutNumber};
+ghost use Rattle.std.specs.Prelude.{◌≡◌, ◌≤◌, min};
+ghost use Rattle.print.specs.inner.Page.{Put, PutNumber, line_of};
 
-use numbers::{Member, Price, Units};
+use itoa::Buffer;
 
-// The text s. A place at the page's end, or past it, leaves the page as it is, and the place after it is the page's end.
-pub fn text(page: &mut [u8], at: usize, s: &[u8]) -> usize
-    ensures prefix_len { IsPrefixLen result page.new }
-    ensures put { Put page.old at s.now page.new result }
-{
-    if page.len() <= at {
-        return page.len();
+// A page of N bytes, with text up to a place.
+#[derive(Drop)]
+pub struct Page<const N: usize> {
+    pub bytes: [u8; N],
+    pub end: usize,
+    pub ghost within: { end ≤ N },
+}
+
+impl<const N: usize> Page<N> {
+    // A page whose text goes on from a place: past the page's end, from that end.
+    pub fn at(bytes: [u8; N], place: usize) -> Page<N>
+        ensures bytes { result.bytes ≡ bytes.entry }
+        ensures end { result.end ≡ min place N }
+    {
+        Page {
+            bytes,
+            end: place.min(N),
+        }
     }
-    let n = least(s.len(), page.len() - at);
-    let mut i = 0;
-    while i < n {
-        page[at + i] = s[i];
-        i += 1;
+
+    // Puts a text on the page.
+    pub fn text(&mut self, s: &[u8])
+        ensures { Put self.old.bytes self.old.end s.now self.new.bytes self.new.end }
+    {
+        let n = s.len().min(N - self.end);
+        let page = &mut self.bytes[..];
+        page[self.end..self.end + n].copy_from_slice(&s[..n]);
+        self.end += n;
     }
-    at + n
-}
 
-// A number in decimal, with a minus sign where it is below 0 and no zero before its first digit.
-pub fn number(page: &mut [u8], at: usize, n: i64) -> usize
-    ensures prefix_len { IsPrefixLen result page.new }
-    ensures put_number { PutNumber page.old at n page.new result }
-{
-    let mut digits = [0u8; 20];
-    let k = io::decimal(size(n), &mut digits);
-    if n < 0 {
-        let signed = text(page, at, b"-");
-        return text(page, signed, &digits[..k]);
+    // Puts a number in decimal, with a minus sign where it is below 0 and no zero before its first digit.
+    pub fn number(&mut self, n: i64)
+        ensures { PutNumber self.old.bytes self.old.end n self.new.bytes self.new.end }
+    {
+        let mut buffer = Buffer::new();
+        self.text(buffer.format(n).as_bytes());
     }
-    text(page, at, &digits[..k])
-}
 
-pub fn member(page: &mut [u8], at: usize, m: Member) -> usize
-    ensures prefix_len { IsPrefixLen result page.new }
-    ensures put_number { PutNumber page.old at (pos m.0) page.new result }
-{
-    number(page, at, m.0 as i64)
-}
-
-pub fn units(page: &mut [u8], at: usize, u: Units) -> usize
-    ensures prefix_len { IsPrefixLen result page.new }
-    ensures put_number { PutNumber page.old at u.0 page.new result }
-{
-    number(page, at, u.0 as i64)
-}
-
-pub fn price(page: &mut [u8], at: usize, p: Price) -> usize
-    ensures prefix_len { IsPrefixLen result page.new }
-    ensures put_number { PutNumber page.old at p.0 page.new result }
-{
-    number(page, at, p.0 as i64)
-}
-
-// The number without its sign.
-fn size(n: i64) -> u64
-    ensures { result ≡ nat_abs n }
-{
-    if n < 0 {
-        return (-1 - n) as u64 + 1;
+    // Puts a line: a word, then numbers with a blank before each.
+    pub fn line(&mut self, word: &[u8], numbers: &[i64])
+        ensures { Put self.old.bytes self.old.end (line_of word.now numbers.now) self.new.bytes self.new.end }
+    {
+        self.text(word);
+        for &n in numbers {
+            self.text(b" ");
+            self.number(n);
+        }
+        self.text(b"\n");
     }
-    n as u64
-}
-
-// The lesser of two numbers.
-fn least(a: usize, b: usize) -> usize
-    ensures { result ≡ min a b }
-{
-    if a < b { a } else { b }
 }

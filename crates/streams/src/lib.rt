@@ -6,11 +6,16 @@ ghost use Rattle.std.specs.Io.{ReadsAtMost};
 ghost use Rattle.std.specs.Io.KnownBytes.{Appends, Consumes, IsAtEnd, Keeps};
 ghost use Rattle.streams.specs.inner.Parts.{Came, Went};
 
-use std::io;
+use print::Page;
+use std::env::Env;
+use std::fs::File;
 use std::io::{Error, ErrorKind, Read, Write};
+use std::rt::Files;
+use std::{env, io};
 
 // Reads until the file is full or its end is certain, and gives the number of bytes read, which stand at the file's start; an
 // error where a read failed.
+// A loop of its own: std's `read_to_end` fills a `Vec`, and its `read_exact` says nothing of a file that ends early.
 pub fn read<R: Read>(reader: &mut R, file: &mut [u8]) -> io::Result<usize>
     ensures moved { IfOk result (λ n. n ≤ length file.old) }
     ensures in_bounds { ReadsAtMost result file.new }
@@ -46,6 +51,7 @@ pub fn write<W: Write>(writer: &mut W, page: &[u8], end: usize) -> io::Result<bo
 }
 
 // Writes all of a text: in one write, where the writer takes it whole.
+// A loop of its own: std's `write_all` says nothing of what an error leaves (the clause `err`).
 fn write_all<W: Write>(writer: &mut W, text: &[u8]) -> io::Result<()>
     ensures bytes { OnOk result (Appends (W.contents writer.old) (W.contents writer.new) text.now) }
     ensures err { OnErr result (Went (W.contents writer.old) (W.contents writer.new) text.now) }
@@ -57,6 +63,30 @@ fn write_all<W: Write>(writer: &mut W, text: &[u8]) -> io::Result<()>
             return Err(Error::from(ErrorKind::WriteZero));
         }
         n += put;
+    }
+    Ok(())
+}
+
+// The bytes of a page of `each_file`.
+pub const PAGE: usize = 2112;
+
+// Writes a page for each file that an argument names: what `tell` makes of its name and its bytes. Ends with an error where a
+// file cannot be read or a page cannot be written.
+pub fn each_file<R, W, F>(rt: &R, output: &mut W, tell: F) -> io::Result<()>
+where
+    R: Env + Files + AllocGlobal,
+    W: Write,
+    F: Fn(&mut Page<PAGE>, &str, &[u8]),
+    requires { F.IsAlwaysCallable tell }
+{
+    for path in env::args(rt)?.skip(1) {
+        let mut file = [0u8; 33032];
+        let n = read(&mut File::open(rt, path.as_str())?, &mut file)?;
+        let mut page = Page::at([0; PAGE], 0);
+        tell(&mut page, path.as_str(), &file[..n]);
+        if !write(output, &page.bytes, page.end)? {
+            output.write_all(b"cannot be written\n")?;
+        }
     }
     Ok(())
 }

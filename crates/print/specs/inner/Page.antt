@@ -1,20 +1,21 @@
--- What stands on a page once a text or a number was put on it. Assumes nothing.
-use Rattle.std.specs.Prelude.{◌≡◌, List, [], ◌∷◌, ◌++◌, ℕ, ◌+◌, ◌-◌, min, length, ℤ, pos, negsuc, nat_abs}
-use Rattle.std.proofs.Math.Seq.{paste}
-use Rattle.io.specs.Digits.{last_digits, IsDigitCount}
+-- What stands on a page once a text, a number or a line was put on it. Assumes nothing.
+use Rattle.std.specs.Prelude.{◌≡◌, List, [], ◌∷◌, ◌++◌, ℕ, ◌+◌, ◌-◌, min, length, take, drop, ℤ}
+use Rattle.std.specs.Fmt.{signed_decimal}
+use Rattle.std.specs.List.{flat_map}
 
 -- s was put on `page` from the place `at` on, as far as the page goes: `made` is the page then, `place` the place after s
 pub record Put (page : List ℕ) (at : ℕ) (s made : List ℕ) (place : ℕ) : Type 0 where
-  pub bytes : made ≡ paste page at s (min (length s) (length page - at))
+  pub bytes : made ≡ take at page ++ take (length page - at) s ++ drop (at + length s) page
   pub end : place ≡ min (at + length s) (length page)
 
--- a minus sign where a number is below 0
-unfoldable pub sign_of : ℤ → List ℕ
-sign_of (pos k) = []
-sign_of (negsuc k) = 45 ∷ []
+-- z was put on the page in decimal: its sign where it is below 0, and then its digits, with no zero before the first
+abbrev pub PutNumber : List ℕ → ℕ → ℤ → List ℕ → ℕ → Type 0
+PutNumber page at z made place = Put page at (signed_decimal z) made place
 
--- z was put on the page in decimal, with no zero before its first digit
-pub record PutNumber (page : List ℕ) (at : ℕ) (z : ℤ) (made : List ℕ) (place : ℕ) : Type 0 where
-  pub many : ℕ
-  pub fewest : IsDigitCount 10 1 (nat_abs z) many
-  pub put : Put page at (sign_of z ++ last_digits 10 many (nat_abs z)) made place
+-- a blank, and a number in decimal
+abbrev pub blank_and : ℤ → List ℕ
+blank_and z = 32 ∷ signed_decimal z
+
+-- a line: a word, numbers with a blank before each, and the line's end
+abbrev pub line_of : List ℕ → List ℤ → List ℕ
+line_of word numbers = word ++ flat_map blank_and numbers ++ 10 ∷ []
