@@ -1,4 +1,4 @@
--- The links as they are kept: each is between two members from 1 to 32, and what is left from a line on. Assumes nothing.
+-- The links as they are kept: what is left from a line on. Assumes nothing.
 use mathlib.Core.Path.{◌≡◌, refl, sym, ap, ◌∙◌, subst}
 use mathlib.Core.Bool.{Bool, true, false, cond}
 use mathlib.Core.List.{List, [], ◌∷◌}
@@ -11,16 +11,11 @@ use Rattle.std.proofs.lemmas.List.{drop_all}
 use native.Mathlib.Numerals.{add-one}
 use Rattle.network.specs.declared.bits.Members.{Members}
 use Rattle.problem.specs.Problem.{Link, joins}
-use Rattle.problem.proofs.Tree.{Within}
 use Rattle.network.specs.inner.Walks.{add_masks, Masks}
 use Rattle.network.proofs.Near.{Near, near_none, near_link, near_done}
 use Rattle.market.specs.declared.line.Line.{Line}
 use Rattle.market.specs.inner.Feeders.{capacity_of}
 use Rattle.market.specs.inner.Lines.{link_in, kept}
-
-pub kept_within : (s : List Line) → Within 32 (kept s)
-kept_within [] = tt
-kept_within (x ∷ s) = ((x.ends.numbered.0.0, x.below, x.ends.numbered.1.1), kept_within s)
 
 -- ---- the lines from line i on, of which x is the first
 

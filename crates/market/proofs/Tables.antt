@@ -62,24 +62,24 @@ module _ (e : Entry) (t : Tally) where
   unfolding members_of offers_of offers_by
   counts_link x r a b c is g h =
       subst (λ (k : Entry). Counts k t r) (sym (link_is e a b c is))
-      (record { members = omega arith; offers = omega arith; by = λ j l. ap (λ (k : List ℕ). get_or k j 0) (h.2 ∙ g.2) ∙ omega arith })
+      (record { members = omega arith; offers = omega arith; by = λ j l. ap (λ (k : List ℕ). get_or k j 0) (h.2 ∙ g.2) ∙ omega arith; wide = ap length (h.2 ∙ g.2) })
 
   pub counts_offer : (r : Tally) (m : Member) (u : Terms) → reading_of e ≡ Ok (Record.Offer m u) → Offered m.0 t r → Counts e t r
   unfolding members_of offers_of offers_by
   counts_offer r m u is h =
       subst (λ (k : Entry). Counts k t r) (sym (offer_is e m u is))
-      (record { members = omega (arith, h.members); offers = omega (arith, h.offers); by = λ j l. omega (arith, h.by j l) })
+      (record { members = omega (arith, h.members); offers = omega (arith, h.offers); by = λ j l. omega (arith, h.by j l); wide = h.wide })
 
   pub counts_begins : (r : Tally) (m : Member) → reading_of e ≡ Ok (Record.Begins m) → Named m.0 t r → Counts e t r
   unfolding members_of offers_of offers_by
   counts_begins r m is h =
       subst (λ (k : Entry). Counts k t r) (sym (begins_is e m is))
-      (record { members = omega arith; offers = omega arith; by = λ j l. ap (λ (k : List ℕ). get_or k j 0) h.2 ∙ omega arith })
+      (record { members = omega arith; offers = omega arith; by = λ j l. ap (λ (k : List ℕ). get_or k j 0) h.2 ∙ omega arith; wide = ap length h.2 })
 
   pub counts_fault : Fits e → (k : Rule) → reading_of e ≡ Err k → Counts e t t
   unfolding members_of offers_of offers_by
   counts_fault fits k is =
-      subst (λ (x : Entry). Counts x t t) (sym (fault_is e fits k is)) (record { members = omega arith; offers = omega arith; by = λ j l. omega arith })
+      subst (λ (x : Entry). Counts x t t) (sym (fault_is e fits k is)) (record { members = omega arith; offers = omega arith; by = λ j l. omega arith; wide = refl })
 
 -- a record's offers, at most one, and those of the records after it
 offers_apart : (e : Entry) (es : List Entry) → (length (offers_of (e ∷ es)) ≡ length (offers_of (e ∷ [])) + length (offers_of es)) × (length (offers_of (e ∷ [])) ≤ 1)
@@ -107,6 +107,8 @@ pub record Tallying (f : List ℕ) (n i : ℕ) (t : Tally) : Type 0 where
   pub by : (j : ℕ) → j < 32 → offers_by (suc j) (offers_of (entries f)) ≡ get_or t.by j 0 + offers_by (suc j) (offers_of (entries_from f i (n - i)))
   pub few : t.offers ≤ i
   pub each : (j : ℕ) → j < 32 → get_or t.by j 0 ≤ i
+  pub high : t.members.0 ≤ 32
+  pub wide : length t.by ≡ 32
 
 pub tallying_none : (f : List ℕ) → Tallying f (length f / 8) 0 (record { members = member 0; offers = 0; by = replicate 32 0 })
 unfolding entries
@@ -116,6 +118,8 @@ tallying_none f = record {
   by = λ j h. rw (sub-zero (length f / 8), get_or-replicate {A = ℕ} 32 j 0 0 h) (omega arith);
   few = omega arith;
   each = λ j h. rw (get_or-replicate {A = ℕ} 32 j 0 0 h) (omega arith);
+  high = omega arith;
+  wide = refl;
 }
 
 module _ (f : List ℕ) (n i : ℕ) (t : Tally) (T : Tallying f n i t) where
@@ -130,6 +134,8 @@ module _ (f : List ℕ) (n i : ℕ) (t : Tally) (T : Tallying f n i t) where
         by = λ j l. T.by j l ∙ ap (λ (x : List Entry). get_or t.by j 0 + offers_by (suc j) (offers_of x)) all ∙ omega (arith, (by_apart (suc j) e es).0, c.by j l);
         few = omega (arith, T.few, c.offers, (offers_apart e es).1);
         each = λ j l. omega (arith, T.each j l, c.by j l, (by_apart (suc j) e es).1);
+        high = omega (arith, T.members, ap (λ (x : List Entry). max t.members.0 (members_of x)) all, members_apart e es, c.members, members_few f);
+        wide = c.wide ∙ T.wide;
       }
 
   pub tallying_done : n ≤ i → i ≤ 65535 → Tallied (entries f) t
@@ -141,7 +147,8 @@ module _ (f : List ℕ) (n i : ℕ) (t : Tally) (T : Tallying f n i t) where
         offers = sym (T.offers ∙ ap (λ (x : List Entry). t.offers + length (offers_of x)) all ∙ omega arith);
         by = λ j l. sym (T.by j l ∙ ap (λ (x : List Entry). get_or t.by j 0 + offers_by (suc j) (offers_of x)) all ∙ omega arith);
         few = λ j l. omega (arith, T.each j l);
-        high = omega (arith, T.members, members_few f);
+        high = T.high;
+        wide = T.wide;
       }
 
 -- ---- the lowest member whose count is outside
@@ -161,7 +168,7 @@ no_count : (x : ℕ) → x ≤ 65535 → outside 1 65535 x ≡ eqb x 0
 no_count zero h = refl
 no_count (suc x) h = rw (ne_eqb (suc x) 0 (λ q. omega arith), le-ltb (suc x) 1 (omega arith), le-ltb 65535 (suc x) h)
 
-module _ (f : List ℕ) (t : Tally) (T : Tallied (entries f) t) (wide : length t.by ≡ 32) where
+module _ (f : List ℕ) (t : Tally) (T : Tallied (entries f) t) where
   -- p is the test that a count is outside
   module _ (p : ℕ → Bool) (least most : ℕ) (same : (x : ℕ) → x ≤ 65535 → outside least most x ≡ p x) where
     -- the lowest of the file's members whose count passes
@@ -175,8 +182,8 @@ module _ (f : List ℕ) (t : Tally) (T : Tallied (entries f) t) (wide : length t
         let q = λ (i : ℕ). p (offers_by (suc i) (offers_of (entries f))) in
         let few : n ≤ 32 = T.high in
         let first : position_or_len (outside least most) (take n t.by) ≡ lowest q n =
-        first_is (outside least most) q n t.by (omega arith) (λ k l. same _ (T.few k (omega arith)) ∙ ap p (T.by k (omega arith))) in
-        let long : n ≤ length t.by = omega arith in
+        first_is (outside least most) q n t.by (omega (arith, T.wide)) (λ k l. same _ (T.few k (omega arith)) ∙ ap p (T.by k (omega arith))) in
+        let long : n ≤ length t.by = omega (arith, T.wide) in
         rw (← T.members, first, length-take-le) (go (lowest q n) (ltb (lowest q n) n))
       where
         go : (k : ℕ) (b : Bool) → MatchOption (cond b (Some k) None) (place_if b (suc k) ≡ none) (λ i. place_if b (suc k) ≡ some (i + 1))

@@ -23,5 +23,5 @@ pub fn market(file: &[u8]) -> Result<Feeder, Refusal>
     check_records(file)?;
     let tally = offers(file)?;
     let links = links(file)?;
-    feeder(links.as_slice(), tally.members)
+    feeder(&links, tally.members)
 }

@@ -59,7 +59,7 @@ impl Tally {
         ensures first { result ≡ position (outside least most) (take self.now.members.0 self.now.by) }
         ensures bound { IfSome result (λ j. j < self.now.members.0) }
     {
-        self.by[..self.members.0 as usize]
+        self.by[..usize::from(self.members.0)]
             .iter()
             .position(|count| *count < least || most < *count)
     }
@@ -70,7 +70,14 @@ pub fn offers(file: &[u8]) -> Result<Tally, Refusal>
     requires { length file.now ≤ file_limit }
     ensures { Finds (λ t. (t.members.0 ≡ members_of (entries file.now)) × (1 ≤ t.members.0)) (from5 file.now) (from9 file.now) result }
 {
-    let t = count_offers(file);
+    let mut t = Tally {
+        members: Member(0),
+        offers: 0,
+        by: [0; 32],
+    };
+    for i in 0..file.len() / 8 {
+        t.counted(file, i);
+    }
     if t.offers == 0 {
         return Err(Refusal {
             rule: Rule::NoOffer,
@@ -92,24 +99,8 @@ pub fn offers(file: &[u8]) -> Result<Tally, Refusal>
     Ok(t)
 }
 
-// A file's tally.
-fn count_offers(file: &[u8]) -> Tally
-    requires { length file.now ≤ file_limit }
-    ensures { Tallied (entries file.now) result }
-{
-    let mut t = Tally {
-        members: Member(0),
-        offers: 0,
-        by: [0; 32],
-    };
-    for i in 0..file.len() / 8 {
-        t.counted(file, i);
-    }
-    t
-}
-
 // The number of the member at an index, as a refusal's place.
-pub fn member_place(index: usize) -> u16
+fn member_place(index: usize) -> u16
     requires { index < 32 }
     ensures { result ≡ index + 1 }
 {

@@ -31,8 +31,9 @@ fn line_at(file: &[u8], i: usize) -> Option<Line>
     Some(Line { ends, capacity })
 }
 
-// The links of a file of which none closes a ring, else refusal 9 at the first that does. For each earlier link the members of its part are kept
-// as a set. A link closes a ring if one of the sets holds both its ends; else the sets that hold one of them become one.
+// The links of a file of which none closes a ring, else refusal 9 at the first that does. For each earlier link the members of
+// its part are kept as a set. A link closes a ring if one of the sets holds both its ends; else the sets that hold one of them
+// become one.
 pub fn links(file: &[u8]) -> Result<ArrayVec<Line, 31>, Refusal>
     requires { length file.now ≤ file_limit }
     ensures { Finds (λ s. (first_record closes 0 [] (entries file.now) ≡ none) × (kept s.items ≡ links_of (entries file.now))) (from9 file.now) (from10 file.now) result }

@@ -47,13 +47,13 @@ returns-in_err-links c =
 pub feeder-requires : goal.feeder-requires
 feeder-requires c =
     let n = c.in_ok-tally.ensures.1 in
-    let all : kept c.as_slice.result.now ≡ links_of (entries c.args.file.now) = ap kept c.as_slice.ensures.value ∙ c.in_ok-links.ensures.1.1 in
+    let all : kept c.deref.result.now ≡ links_of (entries c.args.file.now) = ap kept c.deref.ensures.0 ∙ c.in_ok-links.ensures.1.1 in
     (n.1, omega (arith, n.0, members_few c.args.file.now), subst₂ Within (sym n.0) (sym all) (links_within _), subst (Open []) (sym all) (ringless _ c.in_ok-links.ensures.1.0))
 
 pub returns : goal.returns
 returns c =
     let n = c.in_ok-tally.ensures.1 in
-    let all : kept c.as_slice.result.now ≡ links_of (entries c.args.file.now) = ap kept c.as_slice.ensures.value ∙ c.in_ok-links.ensures.1.1 in
+    let all : kept c.deref.result.now ≡ links_of (entries c.args.file.now) = ap kept c.deref.ensures.0 ∙ c.in_ok-links.ensures.1.1 in
     finds_last _ _ _ _
     (records_left _ (read (goal.at.returns c).In_ok-check_records) ∙ c.in_ok-tally.ensures.0 ∙ c.in_ok-links.ensures.0 ∙ sym (only_10 _ _ _ n.0 all))
     (same_feeder _ _ _ n.0 all) c.feeder.ensures

@@ -10,12 +10,14 @@ pub record Offered (m : ℕ) (t r : Tally) : Type 0 where
   pub members : r.members.0 ≡ max t.members.0 m
   pub offers : r.offers ≡ t.offers + 1
   pub by : (j : ℕ) → j < 32 → get_or r.by j 0 ≡ get_or t.by j 0 + cond (eqb (suc j) m) 1 0
+  pub wide : length r.by ≡ length t.by
 
 -- r is t with the record e
 pub record Counts (e : Entry) (t r : Tally) : Type 0 where
   pub members : r.members.0 ≡ max t.members.0 (members_of (e ∷ []))
   pub offers : r.offers ≡ t.offers + length (offers_of (e ∷ []))
   pub by : (j : ℕ) → j < 32 → get_or r.by j 0 ≡ get_or t.by j 0 + offers_by (suc j) (offers_of (e ∷ []))
+  pub wide : length r.by ≡ length t.by
 
 -- t is of the records es
 pub record Tallied (es : List Entry) (t : Tally) : Type 0 where
@@ -24,6 +26,7 @@ pub record Tallied (es : List Entry) (t : Tally) : Type 0 where
   pub by : (j : ℕ) → j < 32 → get_or t.by j 0 ≡ offers_by (suc j) (offers_of es)
   pub few : (j : ℕ) → j < 32 → get_or t.by j 0 ≤ 65535
   pub high : t.members.0 ≤ 32
+  pub wide : length t.by ≡ 32
 
 -- fewer than `least` or more than `most`
 abbrev pub outside : ℕ → ℕ → ℕ → Bool
