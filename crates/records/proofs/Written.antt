@@ -8,8 +8,8 @@ use native.Mathlib.Omega.{arith}
 use lib.Dec.{eqb}
 use lib.ListN.{length, length-append}
 use lib.IntN.{ℤ}
-use borrow.Author.Tests.{eqb-true, eq-eqb}
-use Rattle.numbers.proofs.Tests.{and_true, and_both, or_left, or_right, bool_cases}
+use Rattle.std.proofs.lemmas.Bool.Decides.{nat_tests}
+use Rattle.numbers.proofs.Tests.{or_left, or_right}
 use Rattle.problem.specs.Problem.{Link, Market, joins, neighbours}
 use Rattle.problem.proofs.Tree.{Tree, Open, Within}
 use Rattle.problem.proofs.Tree.Joined.{same, step}
@@ -74,13 +74,13 @@ abbrev ends : Link → ℕ → ℕ → Bool
 ends l a b = eqb l.a a && eqb l.b b
 
 ends_are : (l : Link) (a b : ℕ) → ends l a b ≡ true → (l.a ≡ a) × (l.b ≡ b)
-ends_are l a b t = let p = and_true (eqb l.a a) (eqb l.b b) t in (eqb-true l.a a p.0, eqb-true l.b b p.1)
+ends_are l a b t = (grind (arith, nat_tests), grind (arith, nat_tests))
 
 pub ends_own : (l : Link) → ends l l.a l.b ≡ true
-ends_own l = and_both (eqb l.a l.a) (eqb l.b l.b) (eq-eqb l.a l.a refl) (eq-eqb l.b l.b refl)
+ends_own l = grind (arith, nat_tests)
 
 pub ends_other : (l : Link) (a b : ℕ) → ((l.a ≡ a) × (l.b ≡ b) → ⊥) → ends l a b ≡ false
-ends_other l a b d = bool_cases (ends l a b) (λ t. t ≡ false) (λ t. absurd (d (ends_are l a b t))) (λ t. refl)
+ends_other l a b d = grind (arith, nat_tests)
 
 none_between : (e ls : List Link) → Open e ls → (u v : ℕ) → neighbours e u v ≡ true → (ys : List ℤ) → between ls ys u v ≡ []
 unfolding between
