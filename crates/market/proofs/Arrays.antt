@@ -18,15 +18,14 @@ use Rattle.problem.proofs.Arrange as arrange
 use Rattle.network.specs.declared.Position.{Position}
 use Rattle.network.specs.declared.bits.Members.{Members}
 use Rattle.network.specs.declared.walk.Step.{Step}
-use Rattle.network.specs.inner.Positions.{no_position}
+use Rattle.network.specs.inner.Positions.{no_position, position_at}
 use Rattle.network.specs.inner.Sets.{Lowest}
 use Rattle.network.specs.inner.Walks.{Masks, Adj, Holds, WalkOf, walked_at, walked_from}
 use Rattle.network.proofs.Near.{adj_of, all_joined, not_joined}
 use Rattle.market.specs.Refusals.{apart}
-use Rattle.market.specs.inner.Feeders.{reached_at, reached_from, position_of, capacity_of, places, laid_at, positions_of, step_at}
+use Rattle.market.specs.inner.Feeders.{reached_at, reached_from, position_of, capacity_of, laid_at, PositionsOf, step_at}
 use Rattle.market.specs.inner.Lines.{market_on}
 use Rattle.market.proofs.Passes.{member_hit, member_none}
-use Rattle.market.proofs.Filled.{places_same}
 use Rattle.market.proofs.Trees.{tree_of, from_le, full, member_at_lem, from_at, parent_at_lem, capacity_back}
 
 -- the position that a step makes, with the capacity of its link
@@ -90,6 +89,6 @@ module _ (n : ℕ) (ls : List Link) (p : 1 ≤ n) (few : n ≤ 32) (w : Within n
         ∙ ap₂ {C = Position} (λ (t b : ℕ). record { member = member (reached_at seen i); parent = position_of seen (reached_from seen i); toward = units (pos t); away = units (pos b) })
         most (most ∙ capacity_back ls (reached_at seen i) (reached_from seen i))
 
-    pub steps_laid : places no_position 32 n (step_at ls steps) ≡ positions_of (market_on n ls)
-    unfolding positions_of
-    steps_laid = places_same no_position 32 n _ _ few step_is
+    pub steps_laid : (ps : List Position) → ((i : ℕ) → i < n → position_at ps i ≡ step_at ls steps i) → ((i : ℕ) → n ≤ i → position_at ps i ≡ no_position)
+        → PositionsOf (market_on n ls) ps
+    steps_laid ps at past = record { at = λ i l. at i l ∙ step_is i l; past = past }

@@ -9,7 +9,7 @@ use Prim.Native.Nat.{ℕ, suc, ◌≤◌, ◌<◌}
 use native.Mathlib.Omega.{arith}
 use lib.Dec.{ltb}
 use lib.IntN.{pos}
-use lib.ListN.{length, get_or}
+use lib.ListN.{length}
 use borrow.Author.Tests.{ne_eqb, ltb-true, ltb-false}
 use Rattle.problem.specs.Problem.{Link, Market, joins, walk}
 use Rattle.problem.proofs.Tree.{Within, Tree}
@@ -27,10 +27,9 @@ use Rattle.network.specs.inner.Positions.{no_position, position_at, toward_of, a
 use Rattle.network.specs.inner.Laid.{Laid}
 use Rattle.records.specs.Market.{market_of}
 use Rattle.market.specs.Refusals.{file_refusal}
-use Rattle.market.specs.inner.Feeders.{reached_at, reached_from, capacity_of, places, laid_at, positions_of, FeederOf}
+use Rattle.market.specs.inner.Feeders.{reached_at, reached_from, capacity_of, laid_at, PositionsOf, FeederOf}
 use Rattle.market.proofs.Top.{market_few}
 use Rattle.market.proofs.LinkRecords.{capacity_small}
-use Rattle.market.proofs.Filled.{places_held, places_blank}
 use Rattle.market.proofs.Trees.{from_le, full, member_at_lem, from_at, parent_at_lem, capacity_at, capacity_place, capacity_back}
 use Rattle.market.proofs.Sound.{sound_tree}
 
@@ -60,23 +59,19 @@ at_first : (t : List Hop) → at_pos t 0 ≡ 1
 at_first [] = refl
 at_first (s ∷ t) = ap (λ (b : Bool). pick b s.at (at_pos t 0)) (ne_eqb 0 (suc (length t)) (λ e. omega arith)) ∙ at_first t
 
--- a place holds what is laid there, or lies past the end
-held_or : {A : Type 0} (x : A) (n : ℕ) (f : ℕ → A) (P : A → Type 0) (i : ℕ) → n ≤ 32 → (i < n → P (f i)) → (n ≤ i → P x) → P (get_or (places x 32 n f) i x)
-held_or x n f P i few a b = go (either (ltb i n))
-  where
-    go : (ltb i n ≡ true) ⊎ (ltb i n ≡ false) → P (get_or (places x 32 n f) i x)
-    go (inl e) = let l : i < n = ltb-true i n e in subst P (sym (places_held x 32 n f i (omega arith) l)) (a l)
-    go (inr e) = let l : n ≤ i = ltb-false i n e in subst P (sym (places_blank x 32 n f i l)) (b l)
-
-module _ (m : Market) (R : Tree m) (few : m.members ≤ 32) (small : (u v : ℕ) → capacity_of m.links u v ≤ 40) where
+module _ (m : Market) (R : Tree m) (few : m.members ≤ 32) (small : (u v : ℕ) → capacity_of m.links u v ≤ 40) (ps : List Position) (L : PositionsOf m ps) where
   -- the position i
   seat : ℕ → Position
-  seat i = position_at (positions_of m) i
+  seat i = position_at ps i
 
-  -- what a place holds, or lies past the end
+  -- it is the walk's, or past the members
   seat_or : (P : Position → Type 0) (i : ℕ) → (i < m.members → P (laid_at m i)) → (m.members ≤ i → P no_position) → P (seat i)
-  unfolding positions_of seat
-  seat_or P i a b = held_or no_position m.members (laid_at m) P i few a b
+  unfolding seat
+  seat_or P i a b = go (either (ltb i m.members))
+    where
+      go : (ltb i m.members ≡ true) ⊎ (ltb i m.members ≡ false) → P (position_at ps i)
+      go (inl e) = let l : i < m.members = ltb-true i m.members e in subst P (sym (L.at i l)) (a l)
+      go (inr e) = let l : m.members ≤ i = ltb-false i m.members e in subst P (sym (L.past i l)) (b l)
 
   at : (i : ℕ) → i < m.members → (seat i).member.0 ≡ arrange.member m i
   unfolding laid_at
@@ -92,7 +87,7 @@ module _ (m : Market) (R : Tree m) (few : m.members ≤ 32) (small : (u v : ℕ)
       ap₂ (capacity_of m.links) (member_at_lem m R 0) (from_at m R 0 R.some_member ∙ ap (arrange.member m) from) ∙ alone m.members m.links R.within (arrange.member m 0)
 
   -- the positions of a market on a tree are sound
-  pub positions_sound : Sound m.members (positions_of m)
+  pub positions_sound : Sound m.members ps
   unfolding laid_at seat
   positions_sound = record {
     some = R.some_member;
@@ -127,18 +122,17 @@ module _ (m : Market) (R : Tree m) (few : m.members ≤ 32) (small : (u v : ℕ)
   away_is i =
       seat_or (λ p. away_of p ≡ (link_at m.links (link_of m i)).capacity) i (λ l. capacity_back m.links _ _ ∙ capacity_at m R i l) (λ l. sym (no_link i l)) ∙ sym (cap_both m i).1
 
-  pub feeder_laid : (f : Feeder) → FeederOf m f → Laid m f
-  unfolding seat
-  feeder_laid f F =
-      let same : (i : ℕ) → position_at f.position i ≡ seat i = λ i. ap (λ (ps : List Position). position_at ps i) F.position in
-      record {
-        tree = R;
-        members = F.members;
-        member_is = λ i l. ap (λ (p : Position). p.member.0) (same i) ∙ at i (omega (arith, l, F.members));
-        parent_is = λ i. ap (λ (p : Position). p.parent) (same i) ∙ from i;
-        toward_is = λ i. ap toward_of (same i) ∙ toward_is i;
-        away_is = λ i. ap away_of (same i) ∙ away_is i;
-      }
+-- the market's feeder holds its members, parents and capacities
+pub feeder_laid : (m : Market) → Tree m → m.members ≤ 32 → ((u v : ℕ) → capacity_of m.links u v ≤ 40) → (f : Feeder) → FeederOf m f → Laid m f
+unfolding seat
+feeder_laid m R few small f F = record {
+  tree = R;
+  members = F.members;
+  member_is = λ i l. at m R few small f.position F.positions i (omega (arith, l, F.members));
+  parent_is = from m R few small f.position F.positions;
+  toward_is = toward_is m R few small f.position F.positions;
+  away_is = away_is m R few small f.position F.positions;
+}
 
 pub file_laid : (f : List ℕ) → file_refusal f ≡ none → (x : Feeder) → FeederOf (market_of f) x → Laid (market_of f) x
 unfolding market_of

@@ -5,7 +5,6 @@ pub mod Kept
 pub mod LinkRecords
 pub mod Scan
 pub mod Ringless
-pub mod Filled
 pub mod Trees
 pub mod Arrays
 pub mod Verdicts

@@ -20,7 +20,7 @@ use Rattle.records.specs.declared.Refusal as Code
 use Rattle.network.specs.declared.Feeder.{Feeder}
 use Rattle.records.proofs.Entries.{Fits, by_record}
 use Rattle.market.specs.Refusals.{no_offer, apart, from10, from5, file_refusal}
-use Rattle.market.specs.inner.Feeders.{laid_at, positions_of, FeederOf, Finds}
+use Rattle.market.specs.inner.Feeders.{laid_at, FeederOf, Finds}
 use Rattle.market.specs.inner.Lines.{market_on}
 
 -- ---- the first that applies: a check decides, or leaves it to the rest
@@ -77,8 +77,11 @@ unfolding apart market_of
 only_10 f n ls p q = rw (p, q) refl
 
 pub same_feeder : (f : List ℕ) (n : ℕ) (ls : List Link) → n ≡ members_of (entries f) → ls ≡ links_of (entries f) → (x : Feeder) → FeederOf (market_on n ls) x → FeederOf (market_of f) x
-unfolding positions_of laid_at walk market_of
-same_feeder f n ls p q x F = record { members = F.members ∙ p; position = F.position ∙ rw (p, q) refl }
+unfolding laid_at walk market_of
+same_feeder f n ls p q x F = record {
+  members = F.members ∙ p;
+  positions = record { at = λ i l. F.positions.at i (omega arith) ∙ rw (p, q) refl; past = λ i l. F.positions.past i (omega arith) };
+}
 
 -- ---- a file with an offer has a member
 

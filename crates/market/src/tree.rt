@@ -3,11 +3,11 @@
 ghost use Rattle.std.specs.Prelude.{◌≡◌, [], ℕ, ◌<◌, ◌≤◌};
 ghost use Rattle.std.proofs.Math.Option.{none};
 ghost use Rattle.problem.proofs.Tree.{Within, Open};
-ghost use Rattle.network.specs.inner.Positions.{no_position};
+ghost use Rattle.network.specs.inner.Positions.{no_position, position_at};
 ghost use Rattle.network.specs.inner.Walks.{walked_from};
 ghost use Rattle.records.specs.Refusals.{refusal};
 ghost use Rattle.market.specs.Refusals.{apart};
-ghost use Rattle.market.specs.inner.Feeders.{places, step_at, FeederOf, Finds};
+ghost use Rattle.market.specs.inner.Feeders.{step_at, FeederOf, Finds};
 ghost use Rattle.market.specs.inner.Lines.{kept, market_on};
 
 use crate::line::Line;
@@ -20,7 +20,8 @@ use records::{Refusal, Rule};
 // The positions of a walk of n members, each with the capacity of the link that it was reached over.
 fn positions(links: &[Line], walked: &Walked, n: Member) -> [Position; 32]
     requires { (n.0 ≤ 32) × ((i : ℕ) → i < n.0 → walked_from walked.now.step i < 32) }
-    ensures { result ≡ places no_position 32 n.0 (step_at (kept links.now) walked.now.step) }
+    ensures at { (i : ℕ) → i < n.0 → position_at result i ≡ step_at (kept links.now) walked.now.step i }
+    ensures past { (i : ℕ) → n.0 ≤ i → position_at result i ≡ no_position }
 {
     let none = Position {
         member: Member(0),

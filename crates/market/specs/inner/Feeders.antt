@@ -1,5 +1,5 @@
 -- A market on a tree, by the positions of its walk: position 0 is member 1, position i the i-th member reached.
-use Rattle.std.specs.Prelude.{◌≡◌, cond, List, [], ◌∷◌, ◌++◌, ℕ, zero, suc, eqb, ltb, length, pos, Result, Err, MatchResult}
+use Rattle.std.specs.Prelude.{◌≡◌, cond, List, [], ◌∷◌, ℕ, suc, ◌<◌, ◌≤◌, eqb, length, pos, Result, Err, MatchResult}
 use Rattle.std.proofs.Math.Option.{Option, none}
 use Rattle.numbers.specs.declared.Units.{Units}
 use Rattle.numbers.specs.inner.Held.{member, units}
@@ -8,7 +8,7 @@ use Rattle.network.specs.declared.Feeder.{Feeder}
 use Rattle.network.specs.declared.Position.{Position}
 use Rattle.network.specs.declared.walk.Step.{Step}
 use Rattle.network.specs.inner.Walks.{walked_at, walked_from}
-use Rattle.network.specs.inner.Positions.{no_position}
+use Rattle.network.specs.inner.Positions.{no_position, position_at}
 use Rattle.records.specs.Refusals as R
 use Rattle.records.specs.declared.Refusal.{Refusal}
 use Rattle.records.specs.Market.{market_of}
@@ -34,11 +34,6 @@ unfoldable pub capacity_of : List Link → ℕ → ℕ → ℕ
 capacity_of [] u v = 0
 capacity_of (l ∷ ls) u v = cond (joins l u v) l.capacity (capacity_of ls u v)
 
--- k places: f i at each place i below n, and x at those after
-unfoldable pub places : {A : Type 0} → A → ℕ → ℕ → (ℕ → A) → List A
-places x zero n f = []
-places x (suc k) n f = places x k n f ++ (cond (ltb k n) (f k) x ∷ [])
-
 -- what stands at position i
 unfoldable pub laid_at : Market → ℕ → Position
 laid_at m i =
@@ -50,19 +45,21 @@ laid_at m i =
       away = units (pos (capacity_of m.links (reached_from seen i) (reached_at seen i)));
     }
 
-unfoldable pub positions_of : Market → List Position
-positions_of m = places no_position 32 m.members (laid_at m)
-
 -- position i of a walk over links, by its steps
 unfoldable pub step_at : List Link → List Step → ℕ → Position
 step_at ls steps i =
     let most : Units = units (pos (capacity_of ls (walked_at steps i) (walked_at steps (walked_from steps i)))) in
     record { member = member (walked_at steps i); parent = walked_from steps i; toward = most; away = most }
 
+-- what stands at each position of the market's walk, and nothing past its members
+pub record PositionsOf (m : Market) (ps : List Position) : Type 0 where
+  pub at : (i : ℕ) → i < m.members → position_at ps i ≡ laid_at m i
+  pub past : (i : ℕ) → m.members ≤ i → position_at ps i ≡ no_position
+
 -- f is the market's feeder
 pub record FeederOf (m : Market) (f : Feeder) : Type 0 where
   pub members : f.members ≡ m.members
-  pub position : f.position ≡ positions_of m
+  pub positions : PositionsOf m f.position
 
 -- what a check finds: where it refuses nothing, something that meets P, and `later` is what is left to be said of the file;
 -- else the refusal that the file has

@@ -1,11 +1,10 @@
 -- `feeder` meets its contract: where a member is not reached that is refusal 10, else the walk's steps are the market's positions.
 -- Assumes nothing.
-use mathlib.Core.Path.{refl, sym, ap, ◌∙◌, subst}
+use mathlib.Core.Path.{refl, ap, ◌∙◌}
 use native.Mathlib.Omega.{arith}
 use Rattle.std.proofs.Math.Option.{some}
 use Rattle.std.proofs.lemmas.Option.{MatchOption-at_some, MatchOption-at_none}
 use Rattle.problem.proofs.Tree.{Tree}
-use Rattle.network.specs.inner.Positions.{Sound}
 use Rattle.records.specs.inner.Cases.{rule_of}
 use Rattle.market.specs.inner.Lines.{kept, market_on}
 use Rattle.market.proofs.Arrays.{apart_some, apart_none, tree_none, from_in, steps_laid}
@@ -43,19 +42,21 @@ pub invariant_of-result : goal.invariant_of-result
 invariant_of-result c =
     let s = c.requires in
     let w = c.walk-walked.result in
+    let p = c.positions-position.ensures in
     let R = tree (goal.at.invariant_of-result c).In_default in
-    let laid = c.positions-position.ensures ∙ steps_laid c.args.n.0 _ s.0 s.1 s.2 _ w.step w.count w.reached.0 c.neighbours.ensures c.walk-walked.ensures.0 R in
-    record { sound = subst (Sound c.args.n.0) (sym laid) (positions_sound _ R s.1 (capacity_low c.args.links.now)) }
+    let laid = steps_laid c.args.n.0 _ s.0 s.1 s.2 _ w.step w.count w.reached.0 c.neighbours.ensures c.walk-walked.ensures.0 R c.positions-position.result p.at p.past in
+    record { sound = positions_sound _ R s.1 (capacity_low c.args.links.now) c.positions-position.result laid }
 
 pub returns : goal.returns
 returns c =
     let s = c.requires in
     let w = c.walk-walked.result in
+    let p = c.positions-position.ensures in
     let missing = MatchOption-at_none _ _ c.in_default.is c.lowest_missing.ensures in
     let R = tree (goal.at.returns c).In_default in (
       last_left 10 _ (apart_none c.args.n.0 _ s.0 s.1 s.2 _ w.step w.count w.reached.0 c.neighbours.ensures c.walk-walked.ensures.0 _ missing (omega arith)),
       record {
         members = refl;
-        position = c.positions-position.ensures ∙ steps_laid c.args.n.0 _ s.0 s.1 s.2 _ w.step w.count w.reached.0 c.neighbours.ensures c.walk-walked.ensures.0 R;
+        positions = steps_laid c.args.n.0 _ s.0 s.1 s.2 _ w.step w.count w.reached.0 c.neighbours.ensures c.walk-walked.ensures.0 R c.positions-position.result p.at p.past;
       },
     )
