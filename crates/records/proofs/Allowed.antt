@@ -10,7 +10,7 @@ use native.Mathlib.Omega.{arith}
 use lib.Dec.{eqb, ltb}
 use lib.ListN.{length}
 use Rattle.std.proofs.lemmas.Bool.Decides.{nat_tests}
-use Rattle.std.specs.Prelude.{Ok, Err}
+use Rattle.std.specs.Prelude.{Err}
 use Rattle.numbers.proofs.Tests.{true_false}
 use Rattle.records.specs.declared.Refusal as D
 use Rattle.records.specs.inner.Cases.{number_of, rule_of, refusal_of, refusal_in, unless}
@@ -86,19 +86,13 @@ unsound_allowed f =
     (λ e2. faulty_allowed f 0 (length f / 8) (omega (arith, short_file f e))))
 
 -- ---- the numbers that refusals have are numbers of rules
-pub listed_number : (n : ℕ) → listed n ≡ true → number_of (rule_of n) ≡ n
+listed_number : (n : ℕ) → listed n ≡ true → number_of (rule_of n) ≡ n
 listed_number n e = number_of_rule n (grind (arith, nat_tests)) (grind (arith, nat_tests)) (λ q. grind (arith, nat_tests))
 
--- ---- what an error says of the refusal that it stands for, and no error
-module _ {A : Type 0} (x : A) where
-  pub error_is : (o : Option Refusal) → IfAllowed o → (r : D.Refusal) → unless x o ≡ Err r → o ≡ some (refusal_in r)
-  unfolding unless refusal_in refusal_of
-  error_is none h r e = cc (e)
-  error_is (some f) h r e =
-      let q : refusal_of f ≡ r = cc (e) in
-      ap some (ap₂ {C = Refusal} (λ (k p : ℕ). record { number = k; place = p }) (sym (listed_number f.number (h f refl).number) ∙ ap (λ (s : D.Refusal). number_of s.rule) q) (ap (λ (s : D.Refusal). s.place) q))
-
-  pub ok_is : (o : Option Refusal) (y : A) → unless x o ≡ Ok y → (o ≡ none) × (x ≡ y)
-  unfolding unless
-  ok_is none y e = (refl, cc (e))
-  ok_is (some f) y e = cc (e)
+-- ---- what an error says of the refusal that it stands for
+pub error_is : {A : Type 0} (x : A) (o : Option Refusal) → IfAllowed o → (r : D.Refusal) → unless x o ≡ Err r → o ≡ some (refusal_in r)
+unfolding unless refusal_in refusal_of
+error_is x none h r e = cc (e)
+error_is x (some f) h r e =
+    let q : refusal_of f ≡ r = cc (e) in
+    ap some (ap₂ {C = Refusal} (λ (k p : ℕ). record { number = k; place = p }) (sym (listed_number f.number (h f refl).number) ∙ ap (λ (s : D.Refusal). number_of s.rule) q) (ap (λ (s : D.Refusal). s.place) q))
