@@ -1,19 +1,18 @@
 // Rows of cells. A cell is a price or none in one number: 0 is none, and v + 1 is the price v - 1,000,000, so that the
-// higher cell is the better one. A member's table is read from the records as a row, and a message is taken into a row.
-// Prices become cells in `cell_of` and cells become prices in `total_of`, nowhere else.
+// higher cell is the better one. It is no Option, whose rows would take twice the memory, and memory is fixed. A member's table
+// is read from the records as a row, and a message is taken into a row. Prices become cells in `cell_of` and cells become
+// prices in `total_of`, nowhere else.
 #![tactic(auto)]
 
-ghost use Rattle.std.specs.Prelude.{◌≡◌, true, ℕ, ◌+◌, ◌*◌, ◌-◌, ◌^◌, ◌≤◌, ◌<◌, max, leb, ltb, ℤ, pos, neg_ℤ, ◌-ℤ◌, ◌≤ℤ◌, length, get_or};
+ghost use Rattle.std.specs.Prelude.{◌≡◌, ℕ, ◌+◌, ◌*◌, ◌-◌, ◌^◌, ◌≤◌, ◌<◌, pos, neg_ℤ, ◌-ℤ◌, length, slice_index, EachIndex, IsTrue};
 ghost use Rattle.std.proofs.Math.Option.{some};
-ghost use Rattle.std.specs.Int.Signed.{le_z};
 ghost use Rattle.numbers.specs.Whole.{within};
-ghost use Rattle.problem.specs.Problem.{worth, value};
+ghost use Rattle.problem.specs.Problem.{value};
 ghost use Rattle.problem.proofs.Cell.{◌⊕◌};
 ghost use Rattle.problem.proofs.Max.{max_to, argmax};
 ghost use Rattle.problem.proofs.Prices.{cell_of};
 ghost use Rattle.records.specs.Records.{entries};
 ghost use Rattle.records.specs.Market.{offers_of};
-ghost use Rattle.records.specs.inner.Cases.{terms_in};
 ghost use Rattle.rows.specs.inner.Rows.{given, Offers, worth_of, meets, Combined};
 
 use numbers::{Amount, Member, Price, Units, Whole};
@@ -25,7 +24,7 @@ use span::Span;
 
 // The cell of an amount that is in a price's range.
 fn cell_of(p: Amount) -> u32
-    requires { within (neg_ℤ (pos 1000000)) (pos 1000000) p.0 ≡ true }
+    requires { IsTrue (within (neg_ℤ (pos 1000000)) (pos 1000000) p.0) }
     ensures { result ≡ cell_of 1000000 (some p.0) }
 {
     (p.number() + 1000001) as u32
@@ -79,7 +78,7 @@ pub fn value_of(records: &[u8], j: Member, x: Units) -> Option<Price>
 
 // Member j's own row: cell x is what its table gives for top - x units.
 pub fn own_row(records: &[u8], j: Member, top: Units, row: &mut [u32])
-    ensures { (x : ℕ) → x < length row.old → get_or row.new x 0 ≡ cell_of 1000000 (value (offers_of (entries records.now)) j.0 (top.0 -ℤ pos x)) }
+    ensures { EachIndex row.old (λ x. slice_index row.new x ≡ cell_of 1000000 (value (offers_of (entries records.now)) j.0 (top.0 -ℤ pos x))) }
 {
     row.fill(0);
     for i in 0..records.len() / 8 {
@@ -106,7 +105,7 @@ struct Found {
 // One cell: the best over p of msg[p] with row[x + w - p], where w is the message's last place, and the smallest p that has it.
 fn cell(row: &[u32], msg: &[u32], x: usize) -> Found
     requires sizes { (1 ≤ length msg.now) × (length msg.now ≤ 81) × (x + length msg.now ≤ length row.now) }
-    requires values { ((y : ℕ) → x ≤ y → y < length row.now → get_or row.now y 0 < 2 ^ 31) × ((p : ℕ) → p < length msg.now → get_or msg.now p 0 < 2 ^ 31) }
+    requires values { ((y : ℕ) → x ≤ y → y < length row.now → slice_index row.now y < 2 ^ 31) × EachIndex msg.now (λ p. slice_index msg.now p < 2 ^ 31) }
     ensures { (result.best ≡ max_to (meets row.now msg.now x) (length msg.now - 1)) × (result.pick ≡ argmax (meets row.now msg.now x) (length msg.now - 1)) }
 {
     let w = msg.len() - 1;
@@ -125,8 +124,8 @@ fn cell(row: &[u32], msg: &[u32], x: usize) -> Found
 // Cells copied to the front of a store; the cells past them stay.
 pub fn copy_cells(from: &[u32], to: &mut [u32])
     requires { length from.now ≤ length to.old }
-    ensures by_index { (x : ℕ) → x < length from.now → get_or to.new x 0 ≡ get_or from.now x 0 }
-    ensures past { (x : ℕ) → length from.now ≤ x → get_or to.new x 0 ≡ get_or to.old x 0 }
+    ensures by_index { EachIndex from.now (λ x. slice_index to.new x ≡ slice_index from.now x) }
+    ensures past { (x : ℕ) → length from.now ≤ x → slice_index to.new x ≡ slice_index to.old x }
 {
     to[..from.len()].copy_from_slice(from);
 }
@@ -136,7 +135,7 @@ pub fn copy_cells(from: &[u32], to: &mut [u32])
 // those that are left stay.
 pub fn combine(row: &mut [u32], msg: &[u32], choice: &mut [u8])
     requires sizes { (1 ≤ length msg.now) × (length msg.now ≤ 81) × (length msg.now ≤ length row.old) × (length row.old + 1 ≤ length choice.old + length msg.now) }
-    requires values { ((y : ℕ) → y < length row.old → get_or row.old y 0 < 2 ^ 31) × ((p : ℕ) → p < length msg.now → get_or msg.now p 0 < 2 ^ 31) }
+    requires values { EachIndex row.old (λ y. slice_index row.old y < 2 ^ 31) × EachIndex msg.now (λ p. slice_index msg.now p < 2 ^ 31) }
     ensures { Combined row.old msg.now choice.old row.new choice.new }
 {
     let left = row.len() + 1 - msg.len();

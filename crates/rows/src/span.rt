@@ -1,5 +1,5 @@
 // Lines of prices: what a member is offered, read for some units or taken into a row of cells.
-ghost use Rattle.std.specs.Prelude.{◌≡◌, ℕ, ◌≤◌, ◌<◌, max, ltb, ℤ, pos, ◌-ℤ◌, ◌≤ℤ◌, length, get_or};
+ghost use Rattle.std.specs.Prelude.{◌≡◌, ℕ, ◌≤◌, ◌<◌, max, ltb, ℤ, pos, ◌-ℤ◌, ◌≤ℤ◌, length, slice_index, EachIndex};
 ghost use Rattle.std.specs.Int.Signed.{le_z};
 ghost use Rattle.problem.specs.Problem.{worth};
 ghost use Rattle.problem.proofs.Prices.{Limited};
@@ -57,7 +57,7 @@ impl Span {
     // Taken into a row whose cell x is for top - x units: each cell that the span covers becomes the higher of what it holds
     // and what the span gives, which falls by the slope from cell to cell, the units falling by one.
     pub fn put(self, top: Units, row: &mut [u32])
-        ensures { (x : ℕ) → x < length row.old → get_or row.new x 0 ≡ max (get_or row.old x 0) (cell_in self (top.0 -ℤ pos x)) }
+        ensures { EachIndex row.old (λ x. slice_index row.new x ≡ max (slice_index row.old x) (cell_in self (top.0 -ℤ pos x))) }
     {
         let first = self.high.min(top);
         let start = place_of(top, first);
