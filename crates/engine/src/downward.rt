@@ -24,11 +24,11 @@ pub fn choose(feeder: &Feeder, choices: &[u8; CHOICES]) -> [Choice; 32]
     ensures { (own : ℕ → ℕ → ℕ) → Kept (walk_of feeder.now own) feeder.now.members choices.now 0 0 → Settled (walk_of feeder.now own) feeder.now.members result }
 {
     let mut chosen = [Choice { taken: 0, index: 0 }; 32];
-    for i in 1..usize::from(feeder.members) {
-        let parent = usize::from(feeder.position[i].parent);
+    for i in 1..feeder.members as usize {
+        let parent = feeder.position[i].parent as usize;
         let x = chosen[parent].index;
-        let taken = choices[slot(i) + usize::from(x)];
-        let index = u16::from(taken);
+        let taken = choices[slot(i) + x as usize];
+        let index = taken as u16;
         chosen[parent].index = x + (width(feeder, i) - index);
         chosen[i] = Choice { taken, index };
     }
@@ -41,7 +41,7 @@ fn trade_of(feeder: &Feeder, i: usize, choice: Choice) -> Trade
     ensures net { result.net.0 ≡ pos (top_of feeder.now i) -ℤ pos choice.index }
     ensures sent { result.sent.0 ≡ pos choice.taken -ℤ pos (away_at feeder.now i) }
 {
-    let flow = Units::of(u16::from(choice.taken));
+    let flow = Units::of(choice.taken as u16);
     let net = top(feeder, i) - Units::of(choice.index);
     let sent = flow - feeder.position[i].away;
     Trade { net, sent }
@@ -57,7 +57,7 @@ pub fn settle(feeder: &Feeder, chosen: &[Choice; 32]) -> [Trade; 32]
         net: Units(0),
         sent: Units(0),
     }; 32];
-    for i in 0..usize::from(feeder.members) {
+    for i in 0..feeder.members as usize {
         trades[i] = trade_of(feeder, i, chosen[i]);
     }
     trades

@@ -21,8 +21,8 @@ pub fn top(feeder: &Feeder, v: usize) -> Units
     ensures { result.0 ≡ pos (top_of feeder.now v) }
 {
     let mut sum = feeder.position[v].away;
-    for k in 1..usize::from(feeder.members) {
-        if usize::from(feeder.position[k].parent) == v {
+    for k in 1..feeder.members as usize {
+        if feeder.position[k].parent as usize == v {
             sum = sum + feeder.position[k].toward;
         }
     }
@@ -35,10 +35,10 @@ pub fn row_len(feeder: &Feeder, v: usize) -> usize
     ensures { (own : ℕ → ℕ → ℕ) → result ≡ 1 + reach (walk_of feeder.now own) feeder.now.members v }
 {
     let mut len = 1 + width(feeder, v);
-    for k in v + 1..usize::from(feeder.members) {
-        if usize::from(feeder.position[k].parent) == v {
+    for k in v + 1..feeder.members as usize {
+        if feeder.position[k].parent as usize == v {
             len += width(feeder, k);
         }
     }
-    usize::from(len)
+    len as usize
 }

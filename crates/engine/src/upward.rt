@@ -23,9 +23,9 @@ fn member(feeder: &Feeder, table: &[u8], v: usize, row: &mut [u32; ROW], stores:
         top(feeder, v),
         &mut row[..len],
     );
-    for k in (v + 1..usize::from(feeder.members)).rev() {
-        if usize::from(feeder.position[k].parent) == v {
-            let w = usize::from(width(feeder, k));
+    for k in (v + 1..feeder.members as usize).rev() {
+        if feeder.position[k].parent as usize == v {
+            let w = width(feeder, k) as usize;
             take_in(
                 &mut row[..len],
                 &stores.messages[k],
@@ -44,7 +44,7 @@ pub fn upward(feeder: &Feeder, records: &[u8], stores: &mut Stores)
     ensures { Done feeder.now 0 stores.new (own_of feeder.now (offers_of (entries records.now))) }
 {
     let mut row = [0; ROW];
-    for v in (0..usize::from(feeder.members)).rev() {
+    for v in (0..feeder.members as usize).rev() {
         member(feeder, records, v, &mut row, stores);
     }
 }

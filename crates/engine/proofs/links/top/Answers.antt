@@ -6,7 +6,7 @@ use Rattle.numbers.specs.declared.Units.{Units}
 use Rattle.engine.proofs.Counts.{plus_fits}
 use Rattle.engine.proofs.Tops.{top_to, top_start, top_kid, top_not, top_most, top_end}
 use Rattle.engine.proofs.links.top.Goals as goal
-use Rattle.engine.proofs.links.top.Goals.{then-from-v, else-from-v}
+use Rattle.engine.proofs.links.top.Goals.{then-feeder-k, else-feeder-k}
 
 pub loop-k-init : goal.loop-k-init
 loop-k-init c = (c.args.feeder.now.sound.away c.args.v).0 ∙ ap pos (sym (top_start c.args.feeder.now c.args.v))
@@ -26,9 +26,9 @@ loop-k-preserved c =
     let v = c.args.v in
     let k = c.loop-k.k in
     let i = c.loop-k.invariant in
-    elim c.if-from-v.branch [
-      | then-from-v w ↦ ap (λ (u : Units). u.0) w.sum-is ∙ w.add-sum.ensures ∙ ap₂ ◌+ℤ◌ i (s.toward k).0 ∙ ap pos (sym (top_kid f v k (omega arith) (omega arith)))
-      | else-from-v w ↦ ap (λ (u : Units). u.0) w.sum-is ∙ i ∙ ap pos (sym (top_not f v k (omega arith) (λ e. w.if-from-v.false (omega arith))))
+    elim c.if-feeder-k.branch [
+      | then-feeder-k w ↦ ap (λ (u : Units). u.0) w.sum-is ∙ w.add-sum.ensures ∙ ap₂ ◌+ℤ◌ i (s.toward k).0 ∙ ap pos (sym (top_kid f v k (omega arith) (omega arith)))
+      | else-feeder-k w ↦ ap (λ (u : Units). u.0) w.sum-is ∙ i ∙ ap pos (sym (top_not f v k (omega arith) (λ e. w.if-feeder-k.false (omega arith))))
     ]
 
 pub returns : goal.returns

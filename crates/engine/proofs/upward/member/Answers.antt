@@ -13,7 +13,7 @@ use Rattle.engine.proofs.Parts.{fronts, whole, taken_whole}
 use Rattle.engine.proofs.Passes.{own_law}
 use Rattle.engine.proofs.Turns.{fallen, Asked, Turned, kid_law, turn_not, start_law, end_len, end_kept, end_sent}
 use Rattle.engine.proofs.upward.member.Goals as goal
-use Rattle.engine.proofs.upward.member.Goals.{After-from-w, After-row_len-len, At-loop-k}
+use Rattle.engine.proofs.upward.member.Goals.{After-width-w, After-row_len-len, At-loop-k}
 
 -- the row is within its array
 fits : (c : After-row_len-len) → c.row_len-len.result ≤ 2481
@@ -26,40 +26,40 @@ pub slice_bounds-own_row-end : goal.slice_bounds-own_row-end
 slice_bounds-own_row-end c = let h = fits (goal.at.slice_bounds-own_row-end c).After-row_len-len in search rules
 
 -- a child of v: what taking in its message asks, and how the row stands then
-kid : (c : After-from-w) (own : ℕ → ℕ → ℕ) → Ready c.args.feeder.now c.args.table.now c.args.v c.args.stores.now own
-    → (Small own → Asked c.loop-k.stores.messages c.loop-k.row (c.loop-k.k - 1) c.from-w.result c.loop-k.len)
-    × Turned (walk_of c.args.feeder.now own) c.args.feeder.now.members c.loop-k.row c.loop-k.stores.choices c.loop-k.stores.messages c.args.v c.from-w.result c.loop-k.len (c.loop-k.k - 1)
+kid : (c : After-width-w) (own : ℕ → ℕ → ℕ) → Ready c.args.feeder.now c.args.table.now c.args.v c.args.stores.now own
+    → (Small own → Asked c.loop-k.stores.messages c.loop-k.row (c.loop-k.k - 1) c.width-w.result c.loop-k.len)
+    × Turned (walk_of c.args.feeder.now own) c.args.feeder.now.members c.loop-k.row c.loop-k.stores.choices c.loop-k.stores.messages c.args.v c.width-w.result c.loop-k.len (c.loop-k.k - 1)
 kid c own r =
     let f = c.args.feeder.now in
     kid_law (walk_of f own) f.members (shape f own) c.loop-k.stores.messages (fallen _ _ (c.loop-k.invariant.gathered own r) (omega arith)) (omega arith)
     (rw c.loop-k.invariant.messages r.sent) (omega arith) (omega arith)
 
 -- its sizes
-sizes : (c : After-from-w)
-    → (1 ≤ c.loop-k.k - 1) × (c.loop-k.k - 1 < 32) × (c.from-w.result ≤ 80) × (c.from-w.result < c.loop-k.len)
-    × (c.loop-k.len ≤ c.from-w.result + (80 * (c.loop-k.k - 1 - 1) + 1))
+sizes : (c : After-width-w)
+    → (1 ≤ c.loop-k.k - 1) × (c.loop-k.k - 1 < 32) × (c.width-w.result ≤ 80) × (c.width-w.result < c.loop-k.len)
+    × (c.loop-k.len ≤ c.width-w.result + (80 * (c.loop-k.k - 1 - 1) + 1))
 sizes c = let r = c.requires.ready.1 in ((kid c c.requires.ready.0 r).0 r.small).0
 
-front : (c : After-from-w) → length (take c.loop-k.len c.loop-k.row) ≡ c.loop-k.len
+front : (c : After-width-w) → length (take c.loop-k.len c.loop-k.row) ≡ c.loop-k.len
 front c =
     let r = c.requires.ready in
     length-take-le c.loop-k.len c.loop-k.row (omega (arith, (c.loop-k.invariant.gathered r.0 r.1).rows, sizes c))
 
 pub slice_bounds-take_in-end : goal.slice_bounds-take_in-end
 slice_bounds-take_in-end c =
-    let s = sizes (goal.at.slice_bounds-take_in-end c).After-from-w in
+    let s = sizes (goal.at.slice_bounds-take_in-end c).After-width-w in
     let h : c.loop-k.len ≤ 2481 = omega (arith, s) in
     search rules
 
 pub overflow_sub-len : goal.overflow_sub-len
-overflow_sub-len c = let s = sizes (goal.at.overflow_sub-len c).After-from-w in omega (arith, s)
+overflow_sub-len c = let s = sizes (goal.at.overflow_sub-len c).After-width-w in omega (arith, s)
 
 pub loop-k-preserved : goal.loop-k-preserved
 loop-k-preserved c = record {
   messages = c.loop-k.invariant.messages;
   gathered = λ own r.
       let f = c.args.feeder.now in
-      turn_not (walk_of f own) _ (shape f own) (fallen _ _ (c.loop-k.invariant.gathered own r) (omega arith)) (omega arith) (λ e. c.if-from-v.false (omega arith));
+      turn_not (walk_of f own) _ (shape f own) (fallen _ _ (c.loop-k.invariant.gathered own r) (omega arith)) (omega arith) (λ e. c.if-feeder-k.false (omega arith));
 }
 
 pub loop-k-init : goal.loop-k-init
@@ -71,14 +71,14 @@ loop-k-init c =
     record {
       messages = refl;
       gathered = λ own r.
-          start_law (walk_of f own) f.members (shape f own) _ _ c.args.v _ _ c.from-k.ensures q.feeder (c.row_len-len.ensures own)
+          start_law (walk_of f own) f.members (shape f own) _ _ c.args.v _ _ refl q.feeder (c.row_len-len.ensures own)
           (whole c.args.row.now c.own_row.new.row _ n c.own_row.auto.row ∙ omega arith)
           (λ x d. own_law f c.args.table.now c.own_row.new.row _ c.args.v c.row_len-len.result _ c.top.result.0 n c.top.ensures c.own_row.auto.row c.own_row.ensures x d ∙ sym (r.row_is x)) r.kept;
     }
 
 pub take_in-requires-clause-cells : goal.take_in-requires-clause-cells
 take_in-requires-clause-cells c =
-    let b = (goal.at.take_in-requires-clause-cells c).After-from-w in
+    let b = (goal.at.take_in-requires-clause-cells c).After-width-w in
     let s = sizes b in
     let n = front b in
     (s.0, s.1, s.2, omega (arith, n, s), omega (arith, n, s))
@@ -86,12 +86,12 @@ take_in-requires-clause-cells c =
 pub take_in-requires-clause-values : goal.take_in-requires-clause-values
 take_in-requires-clause-values c =
     let r = c.requires.ready.1 in
-    let a = ((kid (goal.at.take_in-requires-clause-values c).After-from-w c.requires.ready.0 r).0 r.small).1 in
+    let a = ((kid (goal.at.take_in-requires-clause-values c).After-width-w c.requires.ready.0 r).0 r.small).1 in
     (fronts (λ (z : ℕ). z < 2 ^ 31) _ _ a.1, a.0)
 
-pub loop-k-preserved-then-from-v : goal.loop-k-preserved-then-from-v
-loop-k-preserved-then-from-v c =
-    let b = (goal.at.loop-k-preserved-then-from-v c).After-from-w in
+pub loop-k-preserved-then-feeder-k : goal.loop-k-preserved-then-feeder-k
+loop-k-preserved-then-feeder-k c =
+    let b = (goal.at.loop-k-preserved-then-feeder-k c).After-width-w in
     let n = front b in
     record {
       messages = set-get_or c.loop-k.stores.messages _ [] ∙ c.loop-k.invariant.messages;
