@@ -8,6 +8,7 @@ use Rattle.problem.proofs.Form.{Walk, Rising}
 use Rattle.problem.proofs.Reach.{reach, reach_par, reach_other, reach_own}
 use Rattle.problem.proofs.Table.{reach_most}
 use Rattle.network.specs.declared.Feeder.{Feeder}
+use Rattle.network.specs.inner.Feeders.{parent_at, toward_at, away_at}
 use Rattle.engine.specs.inner.Words.{walk_of}
 
 pub record Shape (k : Walk) (n : ℕ) : Type 0 where
@@ -45,3 +46,17 @@ module _ (k : Walk) (n : ℕ) (s : Shape k n) where
 
   pub reach_not : (i v : ℕ) → 1 ≤ i → (k.par i ≡ v → ⊥) → reach k (i + 1) v ≡ reach k i v
   reach_not i v h o = rw (add-one i) (reach_other k s.rising i v h (λ e. o (sym e)))
+
+-- ---- the same of a feeder's walk, with any own rows
+module _ (f : Feeder) (own : ℕ → ℕ → ℕ) where
+  pub row_first : (v : ℕ) → reach (walk_of f own) (v + 1) v ≡ toward_at f v + away_at f v
+  row_first v = reach_first (walk_of f own) _ (shape f own) v
+
+  pub row_kid : (i v : ℕ) → 1 ≤ i → parent_at f i ≡ v → reach (walk_of f own) (i + 1) v ≡ reach (walk_of f own) i v + (toward_at f i + away_at f i)
+  row_kid i v h e = reach_kid (walk_of f own) _ (shape f own) i v h e
+
+  pub row_not : (i v : ℕ) → 1 ≤ i → (parent_at f i ≡ v → ⊥) → reach (walk_of f own) (i + 1) v ≡ reach (walk_of f own) i v
+  row_not i v h o = reach_not (walk_of f own) _ (shape f own) i v h o
+
+pub width_few : (f : Feeder) (i : ℕ) → toward_at f i + away_at f i ≤ 80
+width_few f i = omega (arith, (f.sound.toward i).1, (f.sound.away i).1)

@@ -46,7 +46,7 @@ module _ (f : Feeder) (v : ℕ) where
   top_not zero h o = absurd (omega arith)
   top_not (suc i) h o = rw (add-one (suc i), top_next i, ne_eqb v (parent_at f (suc i)) (λ e. o (sym e))) (add-zero _)
 
-  pub top_most : (i : ℕ) → 1 ≤ i → top_to f v i ≤ 40 * i
+  top_most : (i : ℕ) → 1 ≤ i → top_to f v i ≤ 40 * i
   top_most zero h = absurd (omega arith)
   top_most (suc zero) h = omega (arith, top_start, (s.away v).1)
   top_most (suc (suc i)) h = omega (arith, top_next i, one (eqb v (parent_at f (suc i))), top_most (suc i) (omega arith))
@@ -55,9 +55,10 @@ module _ (f : Feeder) (v : ℕ) where
       one true = (s.toward (suc i)).1
       one false = omega arith
 
-  pub top_end : top_to f v f.members ≡ top_of f v
-  unfolding top_to top_of
-  top_end = refl
+  -- the sum so far is small
+  pub top_few : (i : ℕ) → 1 ≤ i → i ≤ f.members → top_to f v i ≤ 1280
+  top_few i h l = omega (arith, top_most i h, s.few)
 
-  pub top_few : top_of f v ≤ 1280
-  top_few = omega (arith, top_end, top_most f.members s.some, s.few)
+  pub top_end : (i : ℕ) → 1 ≤ i → i ≡ f.members → top_to f v i ≡ top_of f v
+  unfolding top_to top_of
+  top_end i h e = rw e refl

@@ -16,20 +16,22 @@ pub fn width(feeder: &Feeder, i: usize) -> u16
 }
 
 // The most units that the member at v can buy.
+#[tactic(auto, using(crate::proofs::Tops::top_start, crate::proofs::Tops::top_kid, crate::proofs::Tops::top_not, crate::proofs::Tops::top_few, crate::proofs::Tops::top_end))]
 pub fn top(feeder: &Feeder, v: usize) -> Units
     requires { v < feeder.now.members }
     ensures { result.0 ≡ pos (top_of feeder.now v) }
 {
-    let mut sum = feeder.position[v].away;
+    let mut sum = feeder.position[v].away.size();
     for k in 1..feeder.members as usize {
         if feeder.position[k].parent as usize == v {
-            sum = sum + feeder.position[k].toward;
+            sum += feeder.position[k].toward.size();
         }
     }
-    sum
+    Units::of(sum)
 }
 
 // How many cells the row of v has.
+#[tactic(auto, using(crate::proofs::Shape::row_first, crate::proofs::Shape::row_kid, crate::proofs::Shape::row_not, crate::proofs::Shape::width_few))]
 pub fn row_len(feeder: &Feeder, v: usize) -> usize
     requires { v < feeder.now.members }
     ensures { (own : ℕ → ℕ → ℕ) → result ≡ 1 + reach (walk_of feeder.now own) feeder.now.members v }

@@ -1,8 +1,7 @@
 -- `top` meets its contract. The loop's invariant: the sum is that of the positions below k.
 use mathlib.Core.Path.{◌≡◌}
-use lib.IntN.{pos}
 use Rattle.engine.proofs.Tops.{top_to}
 use Rattle.engine.proofs.links.top.Given as goal
 
 abbrev pub invariant-loop-k : goal.invariant-loop-k
-invariant-loop-k l = l.sum.0 ≡ pos (top_to l.feeder l.v l.k)
+invariant-loop-k l = l.sum ≡ top_to l.feeder l.v l.k

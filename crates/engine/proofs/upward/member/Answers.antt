@@ -1,16 +1,18 @@
--- `member` meets its contract. The loop's invariant: for every own row that the table makes, the row has taken in the children
--- from position k on; no message has changed.
+-- `member` meets its contract. The loop's invariant: the row has taken in the children from position k on; no message has
+-- changed.
 use native.Mathlib.Omega.{arith}
-use mathlib.Core.Path.{◌≡◌, refl, sym, ◌∙◌}
+use mathlib.Core.Path.{◌≡◌, refl, ◌∙◌}
 use mathlib.Core.List.{[]}
-use Prim.Native.Nat.{ℕ, ◌+◌, ◌*◌, ◌-◌, ◌<◌, ◌≤◌, ◌^◌}
+use Prim.Native.Nat.{ℕ, ◌+◌, ◌-◌, ◌<◌, ◌≤◌, ◌^◌}
 use lib.ListN.{length, take}
 use lib.Seq.{get_or-take, set-get_or, length-take-le}
 use Rattle.std.proofs.Common.{rules}
-use Rattle.engine.specs.inner.Words.{walk_of, Small, Ready}
+use Rattle.records.specs.Records.{entries}
+use Rattle.records.specs.Market.{offers_of}
+use Rattle.engine.specs.inner.Words.{own_of, form_of}
 use Rattle.engine.proofs.Shape.{shape, far}
 use Rattle.engine.proofs.Parts.{fronts, whole, taken_whole}
-use Rattle.engine.proofs.Passes.{own_law}
+use Rattle.engine.proofs.Passes.{small, own_law}
 use Rattle.engine.proofs.Turns.{fallen, Asked, Turned, kid_law, turn_not, start_law, end_len, end_kept, end_sent}
 use Rattle.engine.proofs.upward.member.Goals as goal
 use Rattle.engine.proofs.upward.member.Goals.{After-width-w, After-row_len-len, At-loop-k}
@@ -18,95 +20,86 @@ use Rattle.engine.proofs.upward.member.Goals.{After-width-w, After-row_len-len, 
 -- the row is within its array
 fits : (c : After-row_len-len) → c.row_len-len.result ≤ 2481
 fits c =
-    let q = c.requires in
-    let z = shape c.args.feeder.now q.ready.0 in
-    omega (arith, c.row_len-len.ensures q.ready.0, far (walk_of c.args.feeder.now q.ready.0) _ z _ c.args.v q.feeder, z.few)
+    let f = c.args.feeder.now in
+    let k = form_of f c.args.records.now in
+    let own = own_of f (offers_of (entries c.args.records.now)) in
+    let z = shape f own in
+    omega (arith, c.row_len-len.ensures own, far k _ z _ c.args.v c.requires.0, z.few)
 
 pub slice_bounds-own_row-end : goal.slice_bounds-own_row-end
 slice_bounds-own_row-end c = let h = fits (goal.at.slice_bounds-own_row-end c).After-row_len-len in search rules
 
 -- a child of v: what taking in its message asks, and how the row stands then
-kid : (c : After-width-w) (own : ℕ → ℕ → ℕ) → Ready c.args.feeder.now c.args.table.now c.args.v c.args.stores.now own
-    → (Small own → Asked c.loop-k.stores.messages c.loop-k.row (c.loop-k.k - 1) c.width-w.result c.loop-k.len)
-    × Turned (walk_of c.args.feeder.now own) c.args.feeder.now.members c.loop-k.row c.loop-k.stores.choices c.loop-k.stores.messages c.args.v c.width-w.result c.loop-k.len (c.loop-k.k - 1)
-kid c own r =
+kid : (c : After-width-w) → let f = c.args.feeder.now in let st = c.loop-k.stores in let i = c.loop-k.k - 1 in
+    Asked st.messages c.loop-k.row i c.width-w.result c.loop-k.len
+    × Turned (form_of f c.args.records.now) f.members c.loop-k.row st.choices st.messages c.args.v c.width-w.result c.loop-k.len i
+kid c =
     let f = c.args.feeder.now in
-    kid_law (walk_of f own) f.members (shape f own) c.loop-k.stores.messages (fallen _ _ (c.loop-k.invariant.gathered own r) (omega arith)) (omega arith)
-    (rw c.loop-k.invariant.messages r.sent) (omega arith) (omega arith)
-
--- its sizes
-sizes : (c : After-width-w)
-    → (1 ≤ c.loop-k.k - 1) × (c.loop-k.k - 1 < 32) × (c.width-w.result ≤ 80) × (c.width-w.result < c.loop-k.len)
-    × (c.loop-k.len ≤ c.width-w.result + (80 * (c.loop-k.k - 1 - 1) + 1))
-sizes c = let r = c.requires.ready.1 in ((kid c c.requires.ready.0 r).0 r.small).0
+    kid_law (form_of f c.args.records.now) f.members (shape f _) c.loop-k.stores.messages (small f c.args.records.now) (fallen _ _ c.loop-k.invariant.gathered (omega arith)) (omega arith)
+    (rw c.loop-k.invariant.messages c.requires.1.sent) (omega arith) (omega arith)
 
 front : (c : After-width-w) → length (take c.loop-k.len c.loop-k.row) ≡ c.loop-k.len
-front c =
-    let r = c.requires.ready in
-    length-take-le c.loop-k.len c.loop-k.row (omega (arith, (c.loop-k.invariant.gathered r.0 r.1).rows, sizes c))
+front c = length-take-le c.loop-k.len c.loop-k.row (omega (arith, c.loop-k.invariant.gathered.rows, (kid c).0.0))
 
 pub slice_bounds-take_in-end : goal.slice_bounds-take_in-end
 slice_bounds-take_in-end c =
-    let s = sizes (goal.at.slice_bounds-take_in-end c).After-width-w in
+    let s = (kid (goal.at.slice_bounds-take_in-end c).After-width-w).0.0 in
     let h : c.loop-k.len ≤ 2481 = omega (arith, s) in
     search rules
 
 pub overflow_sub-len : goal.overflow_sub-len
-overflow_sub-len c = let s = sizes (goal.at.overflow_sub-len c).After-width-w in omega (arith, s)
+overflow_sub-len c = let s = (kid (goal.at.overflow_sub-len c).After-width-w).0.0 in omega (arith, s)
 
 pub loop-k-preserved : goal.loop-k-preserved
 loop-k-preserved c = record {
   messages = c.loop-k.invariant.messages;
-  gathered = λ own r.
+  gathered =
       let f = c.args.feeder.now in
-      turn_not (walk_of f own) _ (shape f own) (fallen _ _ (c.loop-k.invariant.gathered own r) (omega arith)) (omega arith) (λ e. c.if-feeder-k.false (omega arith));
+      turn_not (form_of f c.args.records.now) _ (shape f _) (fallen _ _ c.loop-k.invariant.gathered (omega arith)) (omega arith) (λ e. c.if-feeder-k.false (omega arith));
 }
 
 pub loop-k-init : goal.loop-k-init
 loop-k-init c =
     let f = c.args.feeder.now in
-    let q = c.requires in
     let h = fits (goal.at.loop-k-init c).After-row_len-len in
     let n : length (take c.row_len-len.result c.args.row.now) ≡ c.row_len-len.result = search rules in
     record {
       messages = refl;
-      gathered = λ own r.
-          start_law (walk_of f own) f.members (shape f own) _ _ c.args.v _ _ refl q.feeder (c.row_len-len.ensures own)
+      gathered = start_law (form_of f c.args.records.now) f.members (shape f _) _ _ c.args.v _ _ refl c.requires.0 (c.row_len-len.ensures _)
           (whole c.args.row.now c.own_row.new.row _ n c.own_row.auto.row ∙ omega arith)
-          (λ x d. own_law f c.args.table.now c.own_row.new.row _ c.args.v c.row_len-len.result _ c.top.result.0 n c.top.ensures c.own_row.auto.row c.own_row.ensures x d ∙ sym (r.row_is x)) r.kept;
+          (own_law f c.args.records.now c.own_row.new.row _ c.args.v c.row_len-len.result _ c.top.result.0 n c.top.ensures c.own_row.auto.row c.own_row.ensures) c.requires.1.kept;
     }
 
 pub take_in-requires-clause-cells : goal.take_in-requires-clause-cells
 take_in-requires-clause-cells c =
     let b = (goal.at.take_in-requires-clause-cells c).After-width-w in
-    let s = sizes b in
+    let s = (kid b).0.0 in
     let n = front b in
     (s.0, s.1, s.2, omega (arith, n, s), omega (arith, n, s))
 
 pub take_in-requires-clause-values : goal.take_in-requires-clause-values
 take_in-requires-clause-values c =
-    let r = c.requires.ready.1 in
-    let a = ((kid (goal.at.take_in-requires-clause-values c).After-width-w c.requires.ready.0 r).0 r.small).1 in
+    let a = (kid (goal.at.take_in-requires-clause-values c).After-width-w).0.1 in
     (fronts (λ (z : ℕ). z < 2 ^ 31) _ _ a.1, a.0)
 
 pub loop-k-preserved-then-feeder-k : goal.loop-k-preserved-then-feeder-k
 loop-k-preserved-then-feeder-k c =
     let b = (goal.at.loop-k-preserved-then-feeder-k c).After-width-w in
     let n = front b in
+    let k = kid b in
     record {
       messages = set-get_or c.loop-k.stores.messages _ [] ∙ c.loop-k.invariant.messages;
-      gathered = λ own r.
-          (kid b own r).1 _ _
-          (taken_whole _ c.loop-k.row _ c.take_in.new.row _ _ _ _ _ n c.take_in.ensures c.take_in.auto.row (sizes b).3)
+      gathered = k.1 _ _ (taken_whole _ c.loop-k.row _ c.take_in.new.row _ _ _ _ _ n c.take_in.ensures c.take_in.auto.row k.0.0.3)
           (whole c.loop-k.row c.take_in.new.row _ n c.take_in.auto.row);
     }
 
 -- at the end: what is left of the row is v's message
 ends : (c : At-loop-k) → c.loop-k.k ≤ c.args.v + 1 → c.loop-k.len ≤ 81
 ends c q =
-    let r = c.requires.ready in
-    let z = shape c.args.feeder.now r.0 in
-    omega (arith, end_len (walk_of c.args.feeder.now r.0) _ z (c.loop-k.invariant.gathered r.0 r.1) q, z.narrow c.args.v)
+    let f = c.args.feeder.now in
+    let k = form_of f c.args.records.now in
+    let z = shape f (own_of f (offers_of (entries c.args.records.now))) in
+    omega (arith, end_len k _ z c.loop-k.invariant.gathered q, z.narrow c.args.v)
 
 pub shared_ref_as_front-put_message : goal.shared_ref_as_front-put_message
 shared_ref_as_front-put_message c = omega (arith, ends (goal.at.shared_ref_as_front-put_message c).At-loop-k c.loop-k-test.false)
@@ -115,15 +108,16 @@ pub put_message-requires : goal.put_message-requires
 put_message-requires c = let h = ends (goal.at.put_message-requires c).At-loop-k c.loop-k-test.false in search rules
 
 pub returns : goal.returns
-returns c = λ own r.
+returns c =
     let f = c.args.feeder.now in
-    let s = shape f own in
-    let g = c.loop-k.invariant.gathered own r in
+    let k = form_of f c.args.records.now in
+    let s = shape f (own_of f (offers_of (entries c.args.records.now))) in
+    let g = c.loop-k.invariant.gathered in
     let q = c.loop-k-test.false in
     let lm : c.args.v < length c.loop-k.stores.messages = search rules in
     let n : length (take c.loop-k.len c.loop-k.row) ≡ c.loop-k.len = search rules in
     record {
-      sent = end_sent (walk_of f own) _ s g q c.loop-k.stores.messages _ lm (rw c.loop-k.invariant.messages r.sent)
+      sent = end_sent k _ s g q c.loop-k.stores.messages _ lm (rw c.loop-k.invariant.messages c.requires.1.sent)
           (λ x d. c.put_message.ensures x (omega arith) ∙ get_or-take c.loop-k.len c.loop-k.row x 0 d);
-      kept = end_kept (walk_of f own) _ s g q;
+      kept = end_kept k _ s g q;
     }
