@@ -33,6 +33,7 @@ pub struct Solution {
 
 // The best total over a feeder, where every member's table stands in the same records; none where no allocation is
 // possible.
+#[tactic(auto, using(crate::proofs::Passes::total_is, crate::proofs::Passes::solved))]
 pub fn solve(feeder: &Feeder, records: &[u8]) -> Option<Solution>
     ensures none { IfNone result (best_of feeder.now (own_of feeder.now (offers_of (entries records.now))) ≡ 0) }
     ensures some { IfSome result (λ s. Solved feeder.now (own_of feeder.now (offers_of (entries records.now))) s) }

@@ -37,7 +37,6 @@ fn member(feeder: &Feeder, records: &[u8], v: usize, row: &mut [u32; ROW], store
 }
 
 // Every member, the last of the walk first, where every table stands in the same records.
-#[tactic(auto, using(crate::proofs::Passes::done_none))]
 pub fn upward(feeder: &Feeder, records: &[u8], stores: &mut Stores)
     ensures { Done feeder.now records.now 0 stores.new }
 {
