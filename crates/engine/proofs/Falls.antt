@@ -21,7 +21,7 @@ use Rattle.engine.proofs.Slots.{slot_end}
 use Rattle.engine.proofs.Fill.{blank}
 
 zeros : at (replicate 32 0) ≡ start
-zeros = fun_ext (blank 0)
+zeros = fun_ext (blank 0 32)
 
 -- ---- choices as the lists of what is taken and of the indices
 abbrev pub taken : List Choice → List ℕ
@@ -52,7 +52,7 @@ module _ (k : Walk) (n : ℕ) where
   fall_start =
       record {
         size = refl;
-        inside = λ j l. omega (arith, blank {A = ℕ} 0 j);
+        inside = λ j l. omega (arith, blank {A = ℕ} 0 32 j);
         done = ap (λ (x : ℕ → ℕ). 0 ∷ picks k (n - 1) 1 x) zeros;
         same = ap (λ (x : ℕ → ℕ). indices k 1 x (picks k (n - 1) 1 x)) zeros;
       }

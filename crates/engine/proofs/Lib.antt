@@ -6,4 +6,3 @@ pub mod Turns
 pub mod Passes
 pub mod Falls
 pub mod Fill
-pub mod Counts

@@ -32,13 +32,6 @@ own_law f records row rest v len n t q e s h x d =
     get_or-append row rest 0 x (omega arith) ∙ h x (omega arith)
     ∙ ap (λ (z : ℤ). cell_of 1000000 (value (offers_of (entries records)) (member_at f v) (z -ℤ pos x))) e
 
-pub done_none : (f : Feeder) (records : List ℕ) (st : Stores) (v : ℕ) → v ≡ f.members → Done f records v st
-done_none f records st v e =
-    record {
-      sent = record { sent = λ i p l d c. absurd (omega arith) };
-      kept = record { kept = λ i y a b c d g. absurd (omega (arith, f.sound.rising i a)) };
-    }
-
 -- the root's message is the best total
 pub total_is : (f : Feeder) (records : List ℕ) (st : Stores) → Done f records 0 st → cell_in st.messages 0 0 ≡ best_of f (own_of f (offers_of (entries records)))
 unfolding tab best_of
