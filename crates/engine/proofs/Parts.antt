@@ -1,13 +1,11 @@
 -- A message taken into a row, cell by cell: from the parts that were lent and came back. Assumes nothing.
-use mathlib.Core.Path.{◌≡◌, refl, sym, ap, ap₂, ◌∙◌, subst}
-use mathlib.Core.Bool.{Bool, true, false}
+use mathlib.Core.Path.{◌≡◌, sym, ap, ap₂, ◌∙◌, subst}
 use Prim.Native.Nat.{ℕ, ◌+◌, ◌-◌, ◌<◌, ◌≤◌}
 use native.Mathlib.Omega.{arith}
 use mathlib.Core.List.{List, ◌++◌}
+use Rattle.std.proofs.lemmas.Grind.{common_steps}
 use lib.ListN.{length, get_or, take, drop, length-take, length-drop, length-append, get_or-append}
-use lib.Dec.{ltb}
-use lib.Seq.{get_or-take, get_or-drop, get_or-append-add, length-take-le}
-use borrow.Author.Tests.{ltb-true, ltb-false}
+use lib.Seq.{get_or-take, length-take-le}
 use Rattle.problem.proofs.Cell.{◌⊕◌}
 use Rattle.problem.proofs.Max.{max_to, argmax, max_to_ext, argmax_ext}
 use Rattle.rows.specs.inner.Rows.{meets, Combined}
@@ -18,30 +16,6 @@ pub fronts : (P : ℕ → Type 0) (xs : List ℕ) (n : ℕ) → ((x : ℕ) → x
 fronts P xs n h x l =
     let d : x < n = omega (arith, length-take n xs) in
     subst P (sym (get_or-take n xs x 0 d)) (h x d)
-
--- ---- choices written from place c on, n of them
-module _ (xs ys : List ℕ) (c n : ℕ) (fits : c + n ≤ length xs) (size : length ys ≡ n) where
-  len : length (take c xs) ≡ c
-  len = length-take-le c xs (omega arith)
-
-  put_in : (x : ℕ) → x < n → get_or (take c xs ++ (ys ++ drop n (drop c xs))) (c + x) 0 ≡ get_or ys x 0
-  put_in x l =
-      let q : c + x ≡ length (take c xs) + x = omega (arith, len) in
-      rw (q, get_or-append-add) (get_or-append ys (drop n (drop c xs)) 0 x (omega arith))
-
-  put_before : (j : ℕ) → j < c → get_or (take c xs ++ (ys ++ drop n (drop c xs))) j 0 ≡ get_or xs j 0
-  put_before j l = get_or-append (take c xs) (ys ++ drop n (drop c xs)) 0 j (omega (arith, len)) ∙ get_or-take c xs j 0 l
-
-  put_past : (j : ℕ) → c + n ≤ j → get_or (take c xs ++ (ys ++ drop n (drop c xs))) j 0 ≡ get_or xs j 0
-  put_past j l =
-      let q : j ≡ length (take c xs) + (length ys + (j - c - n)) = omega (arith, len) in
-      let r : c + (n + (j - c - n)) ≡ j = omega arith in
-      ap (λ (t : ℕ). get_or (take c xs ++ (ys ++ drop n (drop c xs))) t 0) q
-      ∙ get_or-append-add (take c xs) (ys ++ drop n (drop c xs)) (length ys + (j - c - n)) 0
-      ∙ get_or-append-add ys (drop n (drop c xs)) (j - c - n) 0
-      ∙ get_or-drop n (drop c xs) (j - c - n) 0
-      ∙ get_or-drop c xs (n + (j - c - n)) 0
-      ∙ ap (λ (t : ℕ). get_or xs t 0) r
 
 -- ---- take_in, as the code has it: the front of a message, and the choices from their place c on, lent to combine
 module _ (message row store : List ℕ) (i w c n : ℕ) (cs : c ≡ slot_of i) (lm : w < length message) (wl : w < length row) (ls : c + n ≡ length store)
@@ -67,21 +41,12 @@ module _ (message row store : List ℕ) (i w c n : ℕ) (cs : c ≡ slot_of i) (
       let size : length choice ≡ n = lc ∙ length-take-le n (drop c store) (omega (arith, length-drop c store)) in
       record {
         cells = λ x d. e.cells x (omega (arith, long)) ∙ ap (max_to (meets row msg x)) W ∙ max_to_ext _ _ w (same x d);
-        picks = λ x d. ap (λ (t : ℕ). get_or (take c store ++ (choice ++ drop n (drop c store))) (t + x) 0) (sym cs)
-            ∙ put_in store choice c n (omega arith) size x (omega arith) ∙ e.picks x (omega (arith, long))
-            ∙ ap (argmax (meets row msg x)) W ∙ argmax_ext _ _ w (same x d);
-        before = λ j d. put_before store choice c n (omega arith) size j (omega arith);
-        after = λ j d. past size j (omega arith) (ltb j (c + n)) refl;
+        picks = λ x d.
+            let h : get_or (take c store ++ (choice ++ drop n (drop c store))) (slot_of i + x) 0 ≡ get_or choice x 0 = grind (arith, common_steps) in
+            h ∙ e.picks x (omega (arith, long)) ∙ ap (argmax (meets row msg x)) W ∙ argmax_ext _ _ w (same x d);
+        before = λ j d. grind (arith, common_steps);
+        after = λ j d. grind (arith, common_steps, e.past_picks (j - c), long);
       }
-    where
-      past : length choice ≡ n → (j : ℕ) → c + (length row - w) ≤ j → (b : Bool) → ltb j (c + n) ≡ b
-          → get_or (take c store ++ (choice ++ drop n (drop c store))) j 0 ≡ get_or store j 0
-      past size j d true t =
-          let q : c + (j - c) ≡ j = omega arith in
-          let l : j - c < n = omega (arith, ltb-true j (c + n) t) in
-          ap (λ (t : ℕ). get_or (take c store ++ (choice ++ drop n (drop c store))) t 0) (sym q) ∙ put_in store choice c n (omega arith) size (j - c) l
-          ∙ e.past_picks (j - c) (omega (arith, long)) ∙ get_or-take n (drop c store) (j - c) 0 l ∙ get_or-drop c store (j - c) 0 ∙ ap (λ (t : ℕ). get_or store t 0) q
-      past size j d false t = put_past store choice c n (omega arith) size j (omega (arith, ltb-false j (c + n) t))
 
 -- ---- a row whose first len cells were lent is as long as before
 pub whole : (row last : List ℕ) (len : ℕ) → length (take len row) ≡ len → length last ≡ length (take len row) → length (last ++ drop len row) ≡ length row

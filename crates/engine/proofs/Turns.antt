@@ -10,8 +10,8 @@ use native.Mathlib.Omega.{arith}
 use mathlib.Core.List.{List, []}
 use lib.ListN.{length, get_or, set}
 use lib.Seq.{get_or-set_same, get_or-set_other}
-use lib.Dec.{eqb, leb, lit<}
-use borrow.Author.Tests.{eqb-true, eqb-false, leb-true, leb-false}
+use lib.Dec.{eqb, lit<}
+use borrow.Author.Tests.{eqb-true, eqb-false}
 use Rattle.problem.proofs.Form.{Walk}
 use Rattle.problem.proofs.Reach.{reach, reach_par}
 use Rattle.problem.proofs.Table.{tab, chosen, tab_all, tab_kid, pick_kid, tab_other, tab_bound}
@@ -58,12 +58,8 @@ module _ (k : Walk) (n : ℕ) (s : Shape k n) where
         count = omega (arith, g.count);
         rows = g.rows;
         cells = λ x d. g.cells x d ∙ sym (tab_other k s.rising s.free n i v x h (λ e. o (sym e)));
-        kept = record { kept = λ j y a b c d f. g.kept.kept j y a b c (λ q. past j (d q) q (eqb i j) refl) f };
+        kept = record { kept = λ j y a b c d f. g.kept.kept j y a b c (λ q. grind (arith, d q, o)) f };
       }
-    where
-      past : (j : ℕ) → i ≤ j → k.par j ≡ v → (b : Bool) → eqb i j ≡ b → suc i ≤ j
-      past j a q true t = absurd (o (ap (λ (u : ℕ). k.par u) (eqb-true i j t) ∙ q))
-      past j a q false t = omega (arith, eqb-false i j t)
 
   -- ---- a child i, whose message is taken in
   module _ {row store : List ℕ} {msgs : List (List ℕ)} {len i : ℕ} (g : Gathering k n row store (k.par i) len (suc i)) (h : 1 ≤ i) (m : Sent k n msgs (k.par i + 1)) where
@@ -94,11 +90,8 @@ module _ (k : Walk) (n : ℕ) (s : Shape k n) where
           ∙ pick_kid k s.rising s.free n (λ p. cell_in msgs i p) (λ x. get_or row x 0) i h g.high below here y b
 
       old_pick : (j y : ℕ) → 1 ≤ j → y ≤ reach k j (k.par j) → j ≢ i → get_or store' (slot_of j + y) 0 ≡ get_or store (slot_of j + y) 0
-      old_pick j y a f o = go (leb i j) refl
-        where
-          go : (q : Bool) → leb i j ≡ q → get_or store' (slot_of j + y) 0 ≡ get_or store (slot_of j + y) 0
-          go true q = t.after _ (omega (arith, left, far k n s i (k.par i) (s.rising i h), slot_apart i j h (omega (arith, leb-true i j q))))
-          go false q = t.before _ (omega (arith, far k n s j (k.par j) (s.rising j a), slot_apart j i a (leb-false i j q)))
+      old_pick j y a f o =
+          grind (arith, t.after (slot_of j + y), t.before (slot_of j + y), left, far k n s i (k.par i) (s.rising i h), far k n s j (k.par j) (s.rising j a), slot_apart i j h, slot_apart j i a)
 
       turn_kid : length row' ≡ length row → Gathering k n row' store' (k.par i) (len - k.wide i) i
       turn_kid lr =
