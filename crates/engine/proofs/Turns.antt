@@ -1,17 +1,14 @@
 -- The upward pass, apart from any code: what holds of a member's row while its children are taken in, and the turns.
 -- Assumes nothing.
-use mathlib.Core.Path.{◌≡◌, refl, sym, ap, ◌∙◌, subst}
-use mathlib.Core.Logic.{◌≢◌, ◌⊎◌, inl, inr}
-use mathlib.Core.Bool.{Bool, true, false}
+use mathlib.Core.Path.{◌≡◌, sym, ap, ◌∙◌, subst}
+use mathlib.Core.Logic.{◌≢◌}
 use Prim.Native.Nat.{ℕ, suc, ◌+◌, ◌-◌, ◌*◌, ◌<◌, ◌≤◌, ◌^◌}
-use native.Mathlib.Nat.{eq-or-lt_of_le}
 use native.Mathlib.Numerals.{add-one}
 use native.Mathlib.Omega.{arith}
 use mathlib.Core.List.{List, []}
+use Rattle.std.proofs.lemmas.Grind.{common_steps}
 use lib.ListN.{length, get_or, set}
-use lib.Seq.{get_or-set_same, get_or-set_other}
-use lib.Dec.{eqb, lit<}
-use borrow.Author.Tests.{eqb-true, eqb-false}
+use lib.Dec.{lit<}
 use Rattle.problem.proofs.Form.{Walk}
 use Rattle.problem.proofs.Reach.{reach, reach_par}
 use Rattle.problem.proofs.Table.{tab, chosen, tab_all, tab_kid, pick_kid, tab_other, tab_bound}
@@ -102,16 +99,11 @@ module _ (k : Walk) (n : ℕ) (s : Shape k n) where
             rows = lr ∙ g.rows;
             cells = λ x d. t.cells x d
                 ∙ tab_kid k s.rising s.free n (λ p. cell_in msgs i p) (λ x. get_or row x 0) i h g.high below here x (omega (arith, left));
-            kept = record { kept = λ j y a b c d f. which j y a b c d f (eqb j i) refl };
+            kept = record { kept = λ j y a b c d f. which j y f (λ o. old_pick j y a f o ∙ g.kept.kept j y a b c (λ z. grind (arith, d z, o)) f) };
           }
         where
-          which : (j y : ℕ) → 1 ≤ j → j < n → k.par i ≤ k.par j → (k.par j ≡ k.par i → i ≤ j) → y ≤ reach k j (k.par j)
-              → (b : Bool) → eqb j i ≡ b → get_or store' (slot_of j + y) 0 ≡ chosen k n j y
-          which j y a b c d f true q =
-              subst (λ (u : ℕ). y ≤ reach k u (k.par u) → get_or store' (slot_of u + y) 0 ≡ chosen k n u y) (sym (eqb-true j i q)) (new_pick y) f
-          which j y a b c d f false q =
-              let o = eqb-false j i q in
-              old_pick j y a f o ∙ g.kept.kept j y a b c (λ z. omega (arith, d z)) f
+          which : (j y : ℕ) → y ≤ reach k j (k.par j) → (j ≢ i → get_or store' (slot_of j + y) 0 ≡ chosen k n j y) → get_or store' (slot_of j + y) 0 ≡ chosen k n j y
+          which j y f other = grind (arith, new_pick y, other)
 
   -- as the code has it: v is the parent, and w how wide the link is
   pub kid_law : {row store : List ℕ} {v w len i : ℕ} (msgs : List (List ℕ)) → ((v x : ℕ) → k.row v x ≤ 2000001) → Gathering k n row store v len (suc i) → 1 ≤ i
@@ -154,14 +146,9 @@ module _ (k : Walk) (n : ℕ) (s : Shape k n) where
     -- its message put in the store; the others are as before
     pub end_sent : (msgs : List (List ℕ)) (message : List ℕ) → v < length msgs → Sent k n msgs (v + 1)
         → ((x : ℕ) → x < len → get_or message x 0 ≡ get_or row x 0) → Sent k n (set msgs v message) v
-    end_sent msgs message size m ours = record { sent = λ j p a b c. go j p b c (eq-or-lt_of_le a) }
+    end_sent msgs message size m ours = record { sent = λ j p a b c. grind (arith, common_steps, mine p, m.sent j p) }
       where
-        mine : (p : ℕ) → p ≤ k.wide v → cell_in (set msgs v message) v p ≡ tab k n (suc v) v p
+        mine : (p : ℕ) → p ≤ k.wide v → get_or message p 0 ≡ tab k n (suc v) v p
         mine p c =
             let d : p < len = omega (arith, end_len) in
-            ap (λ (r : List ℕ). get_or r p 0) (get_or-set_same msgs v message [] size) ∙ ours p d ∙ g.cells p d ∙ ap (λ (t : ℕ). tab k n t v p) (last ∙ add-one v)
-
-        go : (j p : ℕ) → j < n → p ≤ k.wide j → (v ≡ j) ⊎ (v < j) → cell_in (set msgs v message) j p ≡ tab k n (suc j) j p
-        go j p b c (inl e) = subst (λ (t : ℕ). p ≤ k.wide t → cell_in (set msgs v message) t p ≡ tab k n (suc t) t p) e (mine p) c
-        go j p b c (inr l) =
-            ap (λ (r : List ℕ). get_or r p 0) (get_or-set_other msgs v j message [] (λ e. omega arith)) ∙ m.sent j p (omega arith) b c
+            ours p d ∙ g.cells p d ∙ ap (λ (t : ℕ). tab k n t v p) (last ∙ add-one v)
