@@ -30,19 +30,21 @@ use Rattle.records.specs.Records.{entries}
 use Rattle.records.specs.Market.{offers_of}
 use Rattle.records.specs.Answer.{or_zero, each, member_bytes, member_record, link_record, between, total_record, answer_of}
 use Rattle.records.proofs.Written.{member_8, each_same, each_8, links_length, ends_other}
-use Rattle.answer.specs.inner.Words.{Settles, position_in, Positioned, joint_of, from_lower, joint_bytes, link_by, links_by, member_by, Fitting}
+use Rattle.answer.specs.declared.allocation.Allocation.{Allocation}
+use Rattle.answer.specs.inner.Words.{Settles, Fitting}
+use Rattle.answer.specs.inner.Records.{place_of, joint_of, from_lower, joint_bytes, link_by, links_by, member_by, members_by}
 use Rattle.answer.proofs.Sizes.{size_from_lower}
 
 -- ---- a member's record
 
-pub member_by_lem : (records position : List ℕ) (trades : List Trade) (i : ℕ) {j : ℕ} {x v : ℤ} → j ≡ i + 1 → x ≡ net_in trades (get_or position i 0) → v ≡ or_zero (value (offers_of (entries records)) j x)
-    → member_bytes j x v ≡ member_by records position trades (i + 1)
+pub member_by_lem : (records : List ℕ) (x : Allocation) (i : ℕ) {j : ℕ} {u v : ℤ} → j ≡ i + 1 → u ≡ net_in x.trades.now (get_or x.position_of i 0) → v ≡ or_zero (value (offers_of (entries records)) j u)
+    → member_bytes j u v ≡ member_by records x (i + 1)
 unfolding member_by
-member_by_lem records position trades i e p q = let k : i + 1 - 1 ≡ i = omega arith in rw (q, p, e, k)
+member_by_lem records x i e p q = let k : i + 1 - 1 ≡ i = omega arith in rw (q, p, e, k)
 
-pub members_length : (records position : List ℕ) (trades : List Trade) (n : ℕ) → length (each n (member_by records position trades)) ≡ 8 * n
+pub members_length : (records : List ℕ) (x : Allocation) → length (members_by records x) ≡ 8 * x.feeder.now.members
 unfolding member_by
-members_length records position trades n = each_8 n (member_by records position trades) (λ j. member_8 j _ _)
+members_length records x = each_8 x.feeder.now.members (member_by records x) (λ j. member_8 j _ _)
 
 -- ---- the record between two members
 
@@ -173,93 +175,107 @@ module _ {m : Market} {ys : List ℤ} {records : List ℕ} {f : Feeder} {trades 
   reached (suc d) c p l x y n t e =
       subst₂ (λ (u v : ℕ). ltb u v ≡ t → Over (suc d) u v t) x y (over d (omega (arith, one_fewer m R)) t) e
 
-  module _ {position : List ℕ} (Q : Positioned f position) where
-    -- ---- members and their positions
+-- of an allocation that was made of them
+pub settles_by : {m : Market} {ys : List ℤ} {records : List ℕ} {f : Feeder} {trades : List Trade} (x : Allocation) → (x.feeder.now ≡ f) × (x.trades.now ≡ trades) → Settles m ys records f trades
+    → Settles m ys records x.feeder.now x.trades.now
+settles_by {m} {ys} {records} x e S = subst₂ (Settles m ys records) (sym e.0) (sym e.1) S
 
-    place_member : (i : ℕ) → i < m.members → position_in position (member m i) ≡ i
-    place_member i l = let k : i < f.members = omega (arith, count) in ap (position_in position) (sym (S.laid.member_is i k)) ∙ Q.at i k
+module _ {m : Market} {ys : List ℤ} {records : List ℕ} (x : Allocation) (S : Settles m ys records x.feeder.now x.trades.now) where
+  abbrev f : Feeder
+  f = x.feeder.now
 
-    placed : (a : ℕ) → 1 ≤ a → a ≤ m.members → (position_in position a < m.members) × (member m (position_in position a) ≡ a)
-    placed = each_member m R (λ a. (position_in position a < m.members) × (member m (position_in position a) ≡ a)) (λ i l. (omega (arith, place_member i l), ap (member m) (place_member i l)))
+  abbrev T : Tree m
+  T = S.laid.tree
 
-    members_same : each f.members (member_by records position trades) ≡ each m.members (member_record m ys)
-    unfolding member_by member_record
-    members_same =
-        rw count
-        (each_same m.members (member_by records position trades) (member_record m ys) (λ j p q.
-        let a = placed j p q in
-        let l : position_in position j < f.members = omega (arith, count, a.0) in
-        let e : net_in trades (position_in position j) ≡ P.net j m.links ys =
-        S.nets (position_in position j) l ∙ ap (λ (k : ℕ). P.net k m.links ys) (S.laid.member_is (position_in position j) l ∙ a.1) in
-        rw (e, S.tables)))
+  as_many_members : f.members ≡ m.members
+  as_many_members = S.laid.members
 
-    -- ---- links
+  -- ---- members and their positions
 
-    -- one end of each link was reached from the other: no link joins two members where neither was
-    unlinked : (a b : ℕ) → (parent_at f (position_in position b) ≡ position_in position a → ⊥) → (parent_at f (position_in position a) ≡ position_in position b → ⊥)
-        → (e : ℕ) → e < E → (link_at m.links e).a ≡ a → (link_at m.links e).b ≡ b → ⊥
-    unlinked a b not-b not_a e l p q = go (either (lower_of m (suc d)))
-      where
-        d : ℕ
-        d = reached_by m e
+  place_member : (i : ℕ) → i < m.members → place_of x (member m i) ≡ i
+  place_member i l = let k : i < f.members = omega (arith, as_many_members) in ap (place_of x) (sym (S.laid.member_is i k)) ∙ x.positioned.at i k
 
-        h : d < E
-        h = (arranged m R).reached_in e l
+  placed : (a : ℕ) → 1 ≤ a → a ≤ m.members → (place_of x a < m.members) × (member m (place_of x a) ≡ a)
+  placed = each_member m T (λ a. (place_of x a < m.members) × (member m (place_of x a) ≡ a)) (λ i l. (omega (arith, place_member i l), ap (member m) (place_member i l)))
 
-        low : (link_at m.links (link_of m (suc d))).a ≡ a
-        low = ap (λ (x : ℕ). (link_at m.links x).a) ((arranged m R).link_reached e l) ∙ p
+  members_same : members_by records x ≡ each m.members (member_record m ys)
+  unfolding member_by member_record
+  members_same =
+      ap (λ (n : ℕ). each n (member_by records x)) as_many_members
+      ∙ (each_same m.members (member_by records x) (member_record m ys) (λ j p q.
+      let a = placed j p q in
+      let l : place_of x j < f.members = omega (arith, as_many_members, a.0) in
+      let e : net_in x.trades.now (place_of x j) ≡ P.net j m.links ys =
+      S.nets (place_of x j) l ∙ ap (λ (k : ℕ). P.net k m.links ys) (S.laid.member_is (place_of x j) l ∙ a.1) in
+      rw (e, S.tables)))
 
-        high : (link_at m.links (link_of m (suc d))).b ≡ b
-        high = ap (λ (x : ℕ). (link_at m.links x).b) ((arranged m R).link_reached e l) ∙ q
+  -- ---- links
 
-        from : (u v : ℕ) → member m (suc d) ≡ u → member m (parent m (suc d)) ≡ v → parent_at f (position_in position u) ≡ position_in position v
-        from u v x y =
-            ap (λ (k : ℕ). parent_at f (position_in position k)) (sym x) ∙ ap (parent_at f) (place_member (suc d) (omega (arith, h, one_fewer m R))) ∙ S.laid.parent_is (suc d)
-            ∙ sym (ap (position_in position) (sym y) ∙ place_member (parent m (suc d)) (omega (arith, h, one_fewer m R, (arranged m R).rising (suc d) (omega arith))))
+  -- one end of each link was reached from the other: no link joins two members where neither was
+  unlinked : (a b : ℕ) → (parent_at f (place_of x b) ≡ place_of x a → ⊥) → (parent_at f (place_of x a) ≡ place_of x b → ⊥)
+      → (e : ℕ) → e < length m.links → (link_at m.links e).a ≡ a → (link_at m.links e).b ≡ b → ⊥
+  unlinked a b not-b not_a e l p q = go (either (lower_of m (suc d)))
+    where
+      d : ℕ
+      d = reached_by m e
 
-        go : (lower_of m (suc d) ≡ true) ⊎ (lower_of m (suc d) ≡ false) → ⊥
-        go (inl t) = not_a (from a b (sym (low_end m R d h true t) ∙ low) (sym (high_end m R d h true t) ∙ high))
-        go (inr t) = not-b (from b a (sym (high_end m R d h false t) ∙ high) (sym (low_end m R d h false t) ∙ low))
+      h : d < length m.links
+      h = (arranged m T).reached_in e l
 
-    -- c was reached from p, two members
-    over_between : (c p : ℕ) → 1 ≤ c → c ≤ m.members → 1 ≤ p → p ≤ m.members → (c ≡ p → ⊥) → parent_at f (position_in position c) ≡ position_in position p
-        → (t : Bool) → ltb c p ≡ t → Over (position_in position c) c p t
-    over_between c p lc hc lp hp n e =
-        let i = placed c lc hc in
-        let k = placed p lp hp in
-        reached (position_in position c) c p i.0 i.1 (ap (member m) (sym (S.laid.parent_is (position_in position c)) ∙ e) ∙ k.1) n
+      low : (link_at m.links (link_of m (suc d))).a ≡ a
+      low = ap (λ (k : ℕ). (link_at m.links k).a) ((arranged m T).link_reached e l) ∙ p
 
-    -- the record of two members' link
-    link_right : (a b : ℕ) → 1 ≤ a → a ≤ m.members → 1 ≤ b → b ≤ m.members → link_by f position trades a b ≡ between m.links ys a b
-    unfolding link_by joint_of joint_bytes
-    link_right a b pa qa pb qb = sym (go (either (ltb a b)) (same? (parent_at f (position_in position b)) (position_in position a)) (same? (parent_at f (position_in position a)) (position_in position b)))
-      where
-        go : (ltb a b ≡ true) ⊎ (ltb a b ≡ false)
-            → ((parent_at f (position_in position b) ≡ position_in position a) × (eqb (parent_at f (position_in position b)) (position_in position a) ≡ true)) ⊎ ((parent_at f (position_in position b) ≡ position_in position a → ⊥) × (eqb (parent_at f (position_in position b)) (position_in position a) ≡ false))
-            → ((parent_at f (position_in position a) ≡ position_in position b) × (eqb (parent_at f (position_in position a)) (position_in position b) ≡ true)) ⊎ ((parent_at f (position_in position a) ≡ position_in position b → ⊥) × (eqb (parent_at f (position_in position a)) (position_in position b) ≡ false))
-            → between m.links ys a b ≡ joint_bytes f trades a b (joint_of f position a b)
-        go (inr t) u v =
-            rw t (between_none m.links ys a b (λ e l p q. omega (arith, (within_at m.members m.links R.within e l).1, ltb-false a b t)))
-        go (inl t) (inl u) v =
-            let l = ltb-true a b t in
-            rw (t, u.1) (over_between b a pb qb pa qa (λ e. omega arith) u.0 false (le-ltb b a (omega arith)))
-        go (inl t) (inr u) (inl v) =
-            let l = ltb-true a b t in
-            rw (t, u.1, v.1) (over_between a b pa qa pb qb (λ e. omega arith) v.0 true t)
-        go (inl t) (inr u) (inr v) = rw (t, u.1, v.1) (between_none m.links ys a b (unlinked a b u.0 v.0))
+      high : (link_at m.links (link_of m (suc d))).b ≡ b
+      high = ap (λ (k : ℕ). (link_at m.links k).b) ((arranged m T).link_reached e l) ∙ q
 
-    links_same : links_by f position trades ≡ each m.members (λ a. each m.members (between m.links ys a))
-    links_same =
-        ap (λ (n : ℕ). each n (λ a. each n (link_by f position trades a))) count
-        ∙ each_same m.members (λ a. each m.members (link_by f position trades a)) (λ a. each m.members (between m.links ys a)) (λ a p q.
-        each_same m.members (link_by f position trades a) (between m.links ys a) (λ b r s. link_right a b p q r s))
+      from : (u v : ℕ) → member m (suc d) ≡ u → member m (parent m (suc d)) ≡ v → parent_at f (place_of x u) ≡ place_of x v
+      from u v p q =
+          ap (λ (k : ℕ). parent_at f (place_of x k)) (sym p) ∙ ap (parent_at f) (place_member (suc d) (omega (arith, h, one_fewer m T))) ∙ S.laid.parent_is (suc d)
+          ∙ sym (ap (place_of x) (sym q) ∙ place_member (parent m (suc d)) (omega (arith, h, one_fewer m T, (arranged m T).rising (suc d) (omega arith))))
 
-    -- ---- the answer
+      go : (lower_of m (suc d) ≡ true) ⊎ (lower_of m (suc d) ≡ false) → ⊥
+      go (inl t) = not_a (from a b (sym (low_end m T d h true t) ∙ low) (sym (high_end m T d h true t) ∙ high))
+      go (inr t) = not-b (from b a (sym (high_end m T d h false t) ∙ high) (sym (low_end m T d h false t) ∙ low))
 
-    pub answer_is : (t : ℤ) → each f.members (member_by records position trades) ++ links_by f position trades ++ total_record t ≡ answer_of m ys t
-    unfolding answer_of
-    answer_is t = rw (members_same, links_same)
+  -- c was reached from p, two members
+  over_between : (c p : ℕ) → 1 ≤ c → c ≤ m.members → 1 ≤ p → p ≤ m.members → (c ≡ p → ⊥) → parent_at f (place_of x c) ≡ place_of x p
+      → (t : Bool) → ltb c p ≡ t → Over S (place_of x c) c p t
+  over_between c p lc hc lp hp n e =
+      let i = placed c lc hc in
+      let k = placed p lp hp in
+      reached S (place_of x c) c p i.0 i.1 (ap (member m) (sym (S.laid.parent_is (place_of x c)) ∙ e) ∙ k.1) n
 
-    -- the links' records fill the answer's middle part
-    pub links_room : length (links_by f position trades) ≡ 8 * (f.members - 1)
-    links_room = ap length links_same ∙ links_length m R ys (as_many S.within) ∙ ap (λ (k : ℕ). 8 * (k - 1)) (sym count)
+  -- the record of two members' link
+  link_right : (a b : ℕ) → 1 ≤ a → a ≤ m.members → 1 ≤ b → b ≤ m.members → link_by x a b ≡ between m.links ys a b
+  unfolding link_by joint_of joint_bytes
+  link_right a b pa qa pb qb = sym (go (either (ltb a b)) (same? (parent_at f (place_of x b)) (place_of x a)) (same? (parent_at f (place_of x a)) (place_of x b)))
+    where
+      go : (ltb a b ≡ true) ⊎ (ltb a b ≡ false)
+          → ((parent_at f (place_of x b) ≡ place_of x a) × (eqb (parent_at f (place_of x b)) (place_of x a) ≡ true)) ⊎ ((parent_at f (place_of x b) ≡ place_of x a → ⊥) × (eqb (parent_at f (place_of x b)) (place_of x a) ≡ false))
+          → ((parent_at f (place_of x a) ≡ place_of x b) × (eqb (parent_at f (place_of x a)) (place_of x b) ≡ true)) ⊎ ((parent_at f (place_of x a) ≡ place_of x b → ⊥) × (eqb (parent_at f (place_of x a)) (place_of x b) ≡ false))
+          → between m.links ys a b ≡ joint_bytes x a b (joint_of x a b)
+      go (inr t) u v =
+          rw t (between_none m.links ys a b (λ e l p q. omega (arith, (within_at m.members m.links T.within e l).1, ltb-false a b t)))
+      go (inl t) (inl u) v =
+          let l = ltb-true a b t in
+          rw (t, u.1) (over_between b a pb qb pa qa (λ e. omega arith) u.0 false (le-ltb b a (omega arith)))
+      go (inl t) (inr u) (inl v) =
+          let l = ltb-true a b t in
+          rw (t, u.1, v.1) (over_between a b pa qa pb qb (λ e. omega arith) v.0 true t)
+      go (inl t) (inr u) (inr v) = rw (t, u.1, v.1) (between_none m.links ys a b (unlinked a b u.0 v.0))
+
+  links_same : links_by x ≡ each m.members (λ a. each m.members (between m.links ys a))
+  links_same =
+      ap (λ (n : ℕ). each n (λ a. each n (link_by x a))) as_many_members
+      ∙ each_same m.members (λ a. each m.members (link_by x a)) (λ a. each m.members (between m.links ys a)) (λ a p q.
+      each_same m.members (link_by x a) (between m.links ys a) (λ b r s. link_right a b p q r s))
+
+  -- ---- the answer
+
+  pub answer_is : (t : ℤ) → members_by records x ++ links_by x ++ total_record t ≡ answer_of m ys t
+  unfolding answer_of
+  answer_is t = rw (members_same, links_same)
+
+  -- the links' records fill the answer's middle part
+  pub links_room : length (links_by x) ≡ 8 * (f.members - 1)
+  links_room = ap length links_same ∙ links_length m T ys (as_many S.within) ∙ ap (λ (k : ℕ). 8 * (k - 1)) (sym as_many_members)

@@ -3,7 +3,7 @@ use mathlib.Core.Path.{◌≡◌, refl}
 use mathlib.Core.Bool.{Bool, true, false}
 use Prim.Native.Nat.{zero, suc}
 use lib.IntN.{ℤ, pos, negsuc, nat_abs}
-use Rattle.answer.specs.inner.Words.{from_lower}
+use Rattle.answer.specs.inner.Records.{from_lower}
 
 pub size_from_lower : (lower : Bool) (z : ℤ) → nat_abs (from_lower lower z) ≡ nat_abs z
 unfolding from_lower

@@ -5,44 +5,25 @@
 
 ghost use Rattle.std.specs.Prelude.{◌≡◌, List, ◌++◌, ◌*◌, ◌≤◌, length, drop, ℤ};
 ghost use Rattle.problem.specs.Problem.{Market};
-ghost use Rattle.records.specs.Answer.{each, answer_of};
-ghost use Rattle.answer.specs.inner.Words.{Settles, Positioned, Fitting, member_by};
+ghost use Rattle.records.specs.Answer.{answer_of};
+ghost use Rattle.answer.specs.inner.Words.{Settles};
+ghost use Rattle.answer.specs.inner.Records.{members_by};
 
+use crate::allocation::Allocation;
 use engine::Trade;
 use network::Feeder;
 use numbers::{Member, Price};
 
+mod allocation;
 mod bytes;
 mod links;
-
-// An allocation: what the member at each position of a feeder buys, and what its link carries toward member 1.
-#[derive(Clone, Copy)]
-struct Allocation<'a> {
-    feeder: &'a Feeder,
-    trades: &'a [Trade; 32],
-    // the position of each member, member 1's first
-    position_of: [u8; 32],
-    ghost positioned: { Positioned feeder.now position_of },
-    ghost fitting: { Fitting feeder.now trades.now },
-}
-
-// The position of each member, member 1's first.
-fn positions(feeder: &Feeder) -> [u8; 32]
-    ensures { Positioned feeder.now result }
-{
-    let mut position = [0u8; 32];
-    for i in 0..feeder.members {
-        position[feeder.position[i as usize].member.index()] = i;
-    }
-    position
-}
 
 impl Allocation<'_> {
     // The members' records, with the value that each member's table gives for its net: in an allocation that is possible
     // every member has one.
     fn write_members(&self, records: &[u8], out: &mut [u8])
         requires { 8 * self.now.feeder.now.members ≤ length out.old }
-        ensures { out.new ≡ each self.now.feeder.now.members (member_by records.now self.now.position_of self.now.trades.now) ++ drop (8 * self.now.feeder.now.members) out.old }
+        ensures { out.new ≡ members_by records.now self.now ++ drop (8 * self.now.feeder.now.members) out.old }
     {
         // not by chunks of 8: once a slice's chunks are back, a proof knows its length and not its bytes
         for i in 0..self.feeder.members as usize {
@@ -60,11 +41,7 @@ pub fn write(records: &[u8], feeder: &Feeder, trades: &[Trade; 32], total: Price
     requires room { 16 * feeder.now.members ≤ length answer.old }
     ensures { (m : Market) (ys : List ℤ) → Settles m ys records.now feeder.now trades.now → answer.new ≡ answer_of m ys total.0 ++ drop (16 * feeder.now.members) answer.old }
 {
-    let allocation = Allocation {
-        feeder,
-        trades,
-        position_of: positions(feeder),
-    };
+    let allocation = Allocation::of(feeder, trades);
     allocation.write_members(records, answer);
     let members = feeder.members as usize;
     let from = 8 * members;

@@ -1,8 +1,10 @@
 // The links' records, by their lower and then their higher member. A link is found at the position that was reached over it.
 ghost use Rattle.std.specs.Prelude.{◌≡◌, ◌++◌, ◌≤◌, ◌<◌, length, drop, nat_abs, IfSome};
-ghost use Rattle.answer.specs.inner.Words.{position_in, joint_of, from_lower, link_by, links_of, links_by, Filled};
+ghost use Rattle.answer.specs.inner.Words.{Filled};
+ghost use Rattle.answer.specs.inner.Records.{joint_of, from_lower, link_by, links_of, links_by};
 
-use crate::{Allocation, bytes};
+use crate::allocation::Allocation;
+use crate::bytes;
 use numbers::{Member, Units};
 
 // Where the link between two members is found: at the position that was reached over it, which is the lower member's or
@@ -14,20 +16,11 @@ pub struct Joint {
 }
 
 impl Allocation<'_> {
-    // The position of a member.
-    fn place_of(&self, member: Member) -> usize
-        requires { (1 ≤ member.0) × (member.0 ≤ 32) }
-        ensures is { result ≡ position_in self.now.position_of member.0 }
-        ensures inside { result < self.now.feeder.now.members }
-    {
-        self.position_of[member.index()] as usize
-    }
-
     // The link from a to b.
-    #[tactic(auto, unfolding(crate::specs::inner::Words::joint_of))]
+    #[tactic(auto, unfolding(crate::specs::inner::Records::joint_of))]
     fn link_between(&self, a: Member, b: Member) -> Option<Joint>
         requires { (1 ≤ a.0) × (a.0 ≤ 32) × (1 ≤ b.0) × (b.0 ≤ 32) }
-        ensures is { result ≡ joint_of self.now.feeder.now self.now.position_of a.0 b.0 }
+        ensures is { result ≡ joint_of self.now a.0 b.0 }
         ensures inside { IfSome result (λ j. j.reached < self.now.feeder.now.members) }
     {
         if a >= b {
@@ -36,25 +29,25 @@ impl Allocation<'_> {
         let lower = self.place_of(a);
         let higher = self.place_of(b);
         if self.feeder.position[higher].parent as usize == lower {
-            return Some(Joint {
+            Some(Joint {
                 reached: higher,
                 lower: false,
-            });
-        }
-        if self.feeder.position[lower].parent as usize == higher {
-            return Some(Joint {
+            })
+        } else if self.feeder.position[lower].parent as usize == higher {
+            Some(Joint {
                 reached: lower,
                 lower: true,
-            });
+            })
+        } else {
+            None
         }
-        None
     }
 
     // The records of member a's links to higher members, in their order. Gives the number of bytes written.
     #[tactic(auto, using(crate::proofs::Sizes::size_from_lower))]
     fn write_links_of(&self, a: Member, out: &mut [u8]) -> usize
-        requires { (1 ≤ a.0) × (a.0 ≤ self.now.feeder.now.members) × (length (links_of self.now.feeder.now self.now.position_of self.now.trades.now a.0) ≤ length out.old) }
-        ensures { Filled (link_by self.now.feeder.now self.now.position_of self.now.trades.now a.0) self.now.feeder.now.members out.old result out.new }
+        requires { (1 ≤ a.0) × (a.0 ≤ self.now.feeder.now.members) × (length (links_of self.now a.0) ≤ length out.old) }
+        ensures { Filled (link_by self.now a.0) self.now.feeder.now.members out.old result out.new }
     {
         let mut at = 0;
         for i in 0..self.feeder.members as usize {
@@ -73,8 +66,8 @@ impl Allocation<'_> {
 
     // The records of all links.
     pub fn write_links(&self, out: &mut [u8])
-        requires { length (links_by self.now.feeder.now self.now.position_of self.now.trades.now) ≤ length out.old }
-        ensures { out.new ≡ links_by self.now.feeder.now self.now.position_of self.now.trades.now ++ drop (length (links_by self.now.feeder.now self.now.position_of self.now.trades.now)) out.old }
+        requires { length (links_by self.now) ≤ length out.old }
+        ensures { out.new ≡ links_by self.now ++ drop (length (links_by self.now)) out.old }
     {
         let mut at = 0;
         for i in 0..self.feeder.members as usize {
@@ -84,7 +77,7 @@ impl Allocation<'_> {
 }
 
 // What flows from a link's lower member to its higher one, where one of them sends so much toward member 1.
-#[tactic(auto, unfolding(crate::specs::inner::Words::from_lower))]
+#[tactic(auto, unfolding(crate::specs::inner::Records::from_lower))]
 fn from_lower(lower: bool, sent: Units) -> Units
     requires { nat_abs sent.0 ≤ 40 }
     ensures { result.0 ≡ from_lower lower sent.0 }

@@ -1,6 +1,6 @@
 -- `positions` meets its contract. The check finds the step alone; given here, a wrong position is shown beside the right one.
 use Rattle.answer.proofs.Seating.{seating_none, seating_more}
-use Rattle.answer.proofs.positions.Goals as goal
+use Rattle.answer.proofs.allocation.positions.Goals as goal
 
 pub loop-i-init : goal.loop-i-init
 loop-i-init c = seating_none _
