@@ -16,14 +16,14 @@ const CALLER: &str = "/dev/fd/3";
 // What became of the market, by the digit that the caller is told.
 #[derive(Clone, Copy)]
 enum Outcome {
-    Cleared = 48,
-    Refused = 49,
-    NoAnswer = 50,
+    Cleared = b'0' as isize,
+    Refused = b'1' as isize,
+    NoAnswer = b'2' as isize,
 }
 
-// Clears the market on the input and writes its lines. A file of more than 33,016 bytes is read no further than to 33,024, which
-// shows that it is too long. The longest answer, 32 lines of at most 20 bytes, 31 of at most 17 and a last one, takes less than
-// 1,200 of the page's bytes.
+// Clears the market on the input and writes its lines. A file of more than 33,016 bytes is read no further than to 33,024,
+// which shows that it is too long. The longest answer, 32 lines of at most 20 bytes, 31 of at most 17 and a last one, takes
+// less than 1,200 of the page's bytes.
 fn clear<R: Read, W: Write>(input: &mut R, output: &mut W) -> Result<Outcome> {
     let mut file = [0u8; 33024];
     let n = streams::read(input, &mut file).context("cannot read the market")?;

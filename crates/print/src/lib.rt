@@ -1,5 +1,6 @@
-// A page, and text and numbers put on it: each as far as the page goes, what does not fit is lost. One rule: a page whose
-// text reaches its end is full; so whoever makes a page holds the end of its text against the page's length, once.
+// A page, and texts, numbers and lines put on it: each as far as the page goes, what does not fit is lost. One rule: a page
+// whose text reaches its end is full; so whoever makes a page holds the end of its text against the page's length, once.
+// Not by `fmt::Write`: what a `write!` that fails leaves std does not say, and here every byte of a full page is promised too.
 #![tactic(auto)]
 
 ghost use Rattle.std.specs.Prelude.{◌≡◌, ◌≤◌, min};

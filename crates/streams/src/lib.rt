@@ -1,4 +1,5 @@
-// What the programs read and write: a file is read until its end is certain, and a page is written whole.
+// What the programs read and write: a file is read until its end is certain, and a page is written whole; and what two of them
+// share, a page for each file that is named.
 #![tactic(auto)]
 
 ghost use Rattle.std.specs.Prelude.{◌≡◌, true, false, ◌<◌, ◌≤◌, length, take, Ok, IfOk, OnOk, OnErr};
@@ -25,10 +26,9 @@ pub fn read<R: Read>(reader: &mut R, file: &mut [u8]) -> io::Result<usize>
 {
     let mut n: usize = 0;
     while n < file.len() {
-        match reader.read(&mut file[n..]) {
-            Ok(0) => return Ok(n),
-            Ok(got) => n += got,
-            Err(error) => return Err(error),
+        match reader.read(&mut file[n..])? {
+            0 => return Ok(n),
+            got => n += got,
         }
     }
     Ok(n)

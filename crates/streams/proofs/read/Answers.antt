@@ -19,9 +19,9 @@ take_put n k got file part within fits =
 pub loop-n-preserved : goal.loop-n-preserved
 loop-n-preserved g c =
     let n = c.loop-n.n in
-    let got = c.in-Ok.got in
+    let got = c.in_ok-got.got in
     let file = c.loop-n.file in
-    let read = c.in-Ok.ensures in
+    let read = c.in_ok-got.ensures in
     let put = take_put n (length file - n) got file c.read.new.buf c.loop-n.invariant.0 read.bound.0 in
     let both = Consumes-trans _ _ _ _ _ c.loop-n.invariant.2 read.bytes.0 in
     (search rules, search rules, subst (Consumes _ _) (sym put) both)
