@@ -3,10 +3,9 @@ use mathlib.Core.Path.{◌≡◌, refl}
 use mathlib.Core.List.{List, []}
 use mathlib.Core.Option.{Option, none, some}
 use Prim.Native.Nat.{ℕ}
-use native.Mathlib.Omega.{arith}
 use Rattle.problem.proofs.Tree.{Tree}
 use Rattle.records.specs.Records.{entries}
-use Rattle.records.specs.Refusals.{Refusal, refusal, unsound}
+use Rattle.records.specs.Refusals.{refusal, unsound}
 use Rattle.records.specs.Market.{market_of}
 use Rattle.records.proofs.Entries.{both_none}
 use Rattle.market.specs.Refusals.{first_record, no_offer, without, too_many, closes, apart, file_refusal}
@@ -15,14 +14,11 @@ use Rattle.market.proofs.LinkRecords.{links_within}
 use Rattle.market.proofs.Ringless.{ringless}
 use Rattle.market.proofs.Trees.{tree_of}
 
-given : {r : Refusal} → some r ≡ none → ⊥
-given q = let z : ◌≡◌ {A = ℕ} 0 1 = cc in omega arith
-
 -- a refusal that is not given has no place
 unplaced : (k : ℕ) (o : Option ℕ) → refusal k o ≡ none → o ≡ none
 unfolding refusal
 unplaced k none e = refl
-unplaced k (some p) e = absurd (given e)
+unplaced k (some p) e = cc (e)
 
 -- what passes refusals 5 to 10
 pub record Passed (f : List ℕ) : Type 0 where

@@ -1,25 +1,23 @@
 -- The tally of a file's members and offers, record by record, and the lowest member whose count is outside. Assumes nothing.
+use Rattle.std.proofs.lemmas.Bool.Decides.{nat_tests}
 use mathlib.Core.Path.{◌≡◌, refl, sym, ap, ◌∙◌, subst}
 use mathlib.Core.Bool.{Bool, true, false, cond}
 use mathlib.Core.List.{List, [], ◌∷◌}
-use mathlib.Core.Logic.{◌⊎◌, inl, inr}
-use Prim.Native.Nat.{ℕ, zero, suc, ◌+◌, ◌-◌, ◌/◌, ◌≤◌, ◌<◌, max, zero-le}
+use Prim.Native.Nat.{ℕ, zero, suc, ◌+◌, ◌-◌, ◌/◌, ◌≤◌, ◌<◌, max}
 use native.Mathlib.Nat.{sub-zero}
 use native.Mathlib.Omega.{arith}
 use native.Mathlib.Nat.{not-suc-le-zero}
 use native.Mathlib.Numerals.{add-one}
 use lib.Dec.{eqb, ltb}
-use lib.ListN.{length, get_or, set, take, replicate, get_or-replicate}
+use lib.ListN.{length, get_or, take, replicate, get_or-replicate}
 use Rattle.std.specs.Prelude.{not, Ok, Err, Some, None, MatchOption, position}
 use Rattle.std.specs.List.{position_or_len}
 use Rattle.std.proofs.lemmas.List.{length-take-le}
 use Rattle.std.proofs.Math.Option.{none, some}
 use Rattle.std.proofs.Math.Option as Math
-use lib.Seq.{get_or-set_same, get_or-set_other}
 use Rattle.numbers.specs.declared.Member.{Member}
 use Rattle.numbers.specs.declared.Units.{Units}
 use Rattle.numbers.specs.inner.Held.{member}
-use Rattle.problem.proofs.Count.{same?}
 use Rattle.records.specs.Records.{Entry, entry_at, entries_from, entries}
 use Rattle.records.specs.Records.Entry.{link, offer, begins, fault}
 use Rattle.records.specs.Market.{members_of, offers_of, market_of}
@@ -32,20 +30,8 @@ use Rattle.records.specs.Refusals.{place_if}
 use Rattle.records.proofs.Entries.{rest, ended, link_is, offer_is, begins_is, fault_is, MemberFits, Fits, entry_fits}
 use Rattle.market.specs.Refusals.{lowest_member, offers_by, without, too_many}
 use Rattle.market.specs.declared.offers.Tally.{Tally}
-use Rattle.market.specs.inner.Tallies.{Offered, Counts, Tallied, outside}
-use borrow.Author.Tests.{ne_eqb, le-ltb}
+use Rattle.market.specs.inner.Tallies.{Offered, Counts, outside}
 use Rattle.market.proofs.Top.{members_few, members_apart}
-
--- one more for member m
-pub added : (by : List ℕ) (m i j : ℕ) → 1 ≤ m → m ≤ length by → i ≡ m - 1 → get_or (set by i (get_or by i 0 + 1)) j 0 ≡ get_or by j 0 + cond (eqb (suc j) m) 1 0
-added by m i j low high is = go (same? (suc j) m)
-  where
-    go : ((suc j ≡ m) × (eqb (suc j) m ≡ true)) ⊎ ((suc j ≡ m → ⊥) × (eqb (suc j) m ≡ false)) → get_or (set by i (get_or by i 0 + 1)) j 0 ≡ get_or by j 0 + cond (eqb (suc j) m) 1 0
-    go (inl e) = rw (e.1, at) (get_or-set_same by j (get_or by j 0 + 1) 0 (omega arith))
-      where
-        at : i ≡ j
-        at = omega arith
-    go (inr e) = rw e.1 (get_or-set_other by i j (get_or by i 0 + 1) 0 (λ q. e.0 (omega arith)) ∙ omega arith)
 
 -- ---- one record more
 
@@ -99,6 +85,15 @@ by_apart j (link l) es = (omega arith, omega arith)
 by_apart j (offer o) es = (omega arith, omega (arith, at_most_one (eqb j o.member)))
 by_apart j (begins m) es = (omega arith, omega arith)
 by_apart j (fault k) es = (omega arith, omega arith)
+
+-- t is of the records es
+pub record Tallied (es : List Entry) (t : Tally) : Type 0 where
+  pub members : t.members.0 ≡ members_of es
+  pub offers : t.offers ≡ length (offers_of es)
+  pub by : (j : ℕ) → j < 32 → get_or t.by j 0 ≡ offers_by (suc j) (offers_of es)
+  pub few : (j : ℕ) → j < 32 → get_or t.by j 0 ≤ 65535
+  pub high : t.members.0 ≤ 32
+  pub wide : length t.by ≡ 32
 
 -- the tally t of the records before record i, of n, and what is left
 pub record Tallying (f : List ℕ) (n i : ℕ) (t : Tally) : Type 0 where
@@ -165,8 +160,7 @@ first_is p q (suc n) (x ∷ xs) h e = rw (e 0 (omega arith)) (go (q 0) (first_is
     go false ih = omega (arith, ih)
 
 no_count : (x : ℕ) → x ≤ 65535 → outside 1 65535 x ≡ eqb x 0
-no_count zero h = refl
-no_count (suc x) h = rw (ne_eqb (suc x) 0 (λ q. omega arith), le-ltb (suc x) 1 (omega arith), le-ltb 65535 (suc x) h)
+no_count x h = grind (arith, nat_tests)
 
 module _ (f : List ℕ) (t : Tally) (T : Tallied (entries f) t) where
   -- p is the test that a count is outside
@@ -196,4 +190,4 @@ module _ (f : List ℕ) (t : Tally) (T : Tallied (entries f) t) where
 
   pub too_many_is : MatchOption (position (outside 0 64) (take t.members.0 t.by)) (too_many (market_of f) ≡ none) (λ i. too_many (market_of f) ≡ some (i + 1))
   unfolding too_many market_of
-  too_many_is = count_is (λ k. ltb 64 k) 0 64 (λ x h. rw (le-ltb x 0 zero-le) refl)
+  too_many_is = count_is (λ k. ltb 64 k) 0 64 (λ x h. grind (arith, nat_tests))

@@ -1,7 +1,8 @@
 -- What refusals 9 and 10 leave is a market on a tree; its walk by members is its walk by positions. Assumes nothing.
+use Rattle.std.proofs.Math.Bool.{or_comm}
 use mathlib.Core.Path.{◌≡◌, refl, sym, ap, ap₂, ◌∙◌}
 use mathlib.Core.Logic.{◌⊎◌, inl, inr}
-use mathlib.Core.Bool.{Bool, true, false, cond, not, ◌&&◌, ◌||◌}
+use mathlib.Core.Bool.{Bool, true, false, cond, not, ◌&&◌}
 use mathlib.Core.List.{List, [], ◌∷◌}
 use mathlib.Core.Option.{none}
 use Prim.Native.Nat.{ℕ, zero, suc, ◌≤◌, ◌<◌}
@@ -27,7 +28,7 @@ use Rattle.market.specs.inner.Feeders.{reached_at, reached_from, position_of, ca
 
 no_place : (b : Bool) (x : ℕ) → place_if b x ≡ none → b ≡ false
 unfolding place_if
-no_place true x e = let z : ◌≡◌ {A = ℕ} 0 1 = cc in absurd (omega arith)
+no_place true x e = cc (e)
 no_place false x e = refl
 
 none_lowest : (p : ℕ → Bool) (n : ℕ) → lowest_member p n ≡ none → (k : ℕ) → k < n → p (suc k) ≡ false
@@ -111,17 +112,11 @@ capacity_place (l ∷ ls) u v = go (joins l u v) (capacity_place ls u v)
     go false ih = ih
 
 -- a link carries as much one way as the other
-or_turn : (p q : Bool) → (p || q) ≡ (q || p)
-or_turn true true = refl
-or_turn true false = refl
-or_turn false true = refl
-or_turn false false = refl
-
 pub capacity_back : (ls : List Link) (u v : ℕ) → capacity_of ls u v ≡ capacity_of ls v u
 unfolding capacity_of
 capacity_back [] u v = refl
 capacity_back (l ∷ ls) u v =
-    ap₂ (λ (b : Bool) (k : ℕ). cond b l.capacity k) (or_turn (eqb l.a u && eqb l.b v) (eqb l.a v && eqb l.b u)) (capacity_back ls u v)
+    ap₂ (λ (b : Bool) (k : ℕ). cond b l.capacity k) (or_comm (eqb l.a u && eqb l.b v) (eqb l.a v && eqb l.b u)) (capacity_back ls u v)
 
 -- ---- a market on a tree, by the positions of its walk
 module _ (m : Market) (R : Tree m) where

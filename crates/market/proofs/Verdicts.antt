@@ -101,5 +101,5 @@ unfolding no_offer place_if market_of
 some_member f e = member_of_offer f (λ z. none_left (eqb (length (offers_of (entries f))) 0) (eq-eqb _ 0 z) e)
   where
     none_left : (b : Bool) → b ≡ true → place_if b 0 ≡ none → ⊥
-    none_left true t q = let z : ◌≡◌ {A = ℕ} 0 1 = cc (q) in omega arith
+    none_left true t q = cc (q)
     none_left false t q = true_false (sym t)

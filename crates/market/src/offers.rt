@@ -6,7 +6,7 @@ ghost use Rattle.records.specs.Refusals.{file_limit};
 ghost use Rattle.records.specs.Market.{members_of};
 ghost use Rattle.market.specs.Refusals.{from5, from9};
 ghost use Rattle.market.specs.inner.Feeders.{Finds};
-ghost use Rattle.market.specs.inner.Tallies.{Offered, Counts, Tallied, outside};
+ghost use Rattle.market.specs.inner.Tallies.{Offered, Counts, outside};
 
 use numbers::Member;
 use records::{Record, Refusal, Rule, read_at};

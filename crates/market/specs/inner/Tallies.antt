@@ -1,5 +1,5 @@
 -- What a tally says of records.
-use Rattle.std.specs.Prelude.{◌≡◌, Bool, cond, ◌||◌, List, [], ◌∷◌, ℕ, suc, ◌+◌, ◌≤◌, ◌<◌, max, eqb, nat_lt, length, get_or}
+use Rattle.std.specs.Prelude.{◌≡◌, Bool, cond, ◌||◌, [], ◌∷◌, ℕ, suc, ◌+◌, ◌<◌, max, eqb, nat_lt, length, get_or}
 use Rattle.records.specs.Records.{Entry}
 use Rattle.records.specs.Market.{members_of, offers_of}
 use Rattle.market.specs.Refusals.{offers_by}
@@ -18,15 +18,6 @@ pub record Counts (e : Entry) (t r : Tally) : Type 0 where
   pub offers : r.offers ≡ t.offers + length (offers_of (e ∷ []))
   pub by : (j : ℕ) → j < 32 → get_or r.by j 0 ≡ get_or t.by j 0 + offers_by (suc j) (offers_of (e ∷ []))
   pub wide : length r.by ≡ length t.by
-
--- t is of the records es
-pub record Tallied (es : List Entry) (t : Tally) : Type 0 where
-  pub members : t.members.0 ≡ members_of es
-  pub offers : t.offers ≡ length (offers_of es)
-  pub by : (j : ℕ) → j < 32 → get_or t.by j 0 ≡ offers_by (suc j) (offers_of es)
-  pub few : (j : ℕ) → j < 32 → get_or t.by j 0 ≤ 65535
-  pub high : t.members.0 ≤ 32
-  pub wide : length t.by ≡ 32
 
 -- fewer than `least` or more than `most`
 abbrev pub outside : ℕ → ℕ → ℕ → Bool
