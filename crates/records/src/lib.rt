@@ -124,7 +124,7 @@ fn bytes_at(file: &[u8], i: usize) -> [u8; 8]
 fn units(bytes: [u8; 8]) -> Units
     ensures { result.0 ≡ units_at bytes 0 }
 {
-    Units(i16::from_le_bytes([bytes[2], bytes[3]]))
+    Units::from_bits(u16::from_le_bytes([bytes[2], bytes[3]]))
 }
 
 // The 32 bits of its number: a point's price, or one of a span's base and slope.

@@ -121,15 +121,6 @@ fn cell(row: &[u32], msg: &[u32], x: usize) -> Found
     Found { best, pick }
 }
 
-// Cells copied to the front of a store; the cells past them stay.
-pub fn copy_cells(from: &[u32], to: &mut [u32])
-    requires { length from.now ≤ length to.old }
-    ensures by_index { EachIndex from.now (λ x. slice_index to.new x ≡ slice_index from.now x) }
-    ensures past { (x : ℕ) → length from.now ≤ x → slice_index to.new x ≡ slice_index to.old x }
-{
-    to[..from.len()].copy_from_slice(from);
-}
-
 // A message taken into a row, with the choice that each cell was made by. The row is worked out where it stands: a cell is made
 // of the old cells from its own place on, so with x rising no cell is read after it is written. The cells and choices past
 // those that are left stay.
