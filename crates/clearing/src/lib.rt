@@ -31,6 +31,7 @@ fn allocate(records: &[u8], feeder: &Feeder, answer: &mut [u8]) -> Result<usize,
 }
 
 // Clears the market of a file into the answer area: the number of bytes written, or the refusal.
+#[tactic(auto, using(crate::proofs::Refused::file_held, crate::proofs::Refused::file_refused))]
 pub fn clear(file: &[u8], answer: &mut [u8]) -> Result<usize, Refusal>
     ensures promise { Result file.now answer.old (returned result) answer.new }
     ensures size { IfOk result (λ n. n ≤ 512) }
