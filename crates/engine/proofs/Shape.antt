@@ -60,3 +60,8 @@ module _ (f : Feeder) (own : ℕ → ℕ → ℕ) where
 
 pub width_few : (f : Feeder) (i : ℕ) → toward_at f i + away_at f i ≤ 80
 width_few f i = omega (arith, (f.sound.toward i).1, (f.sound.away i).1)
+
+-- the first position has no link
+pub width_near : (f : Feeder) (i : ℕ) → toward_at f i + away_at f i ≤ 80 * i
+width_near f zero = omega (arith, f.sound.first.0, f.sound.first.1)
+width_near f (suc i) = omega (arith, width_few f (suc i))

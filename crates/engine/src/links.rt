@@ -1,5 +1,5 @@
 // How many choices the links around a position have.
-ghost use Rattle.std.specs.Prelude.{◌≡◌, ℕ, ◌+◌, ◌<◌, pos};
+ghost use Rattle.std.specs.Prelude.{◌≡◌, ℕ, ◌+◌, ◌≤◌, ◌<◌, pos};
 ghost use Rattle.problem.proofs.Reach.{reach};
 ghost use Rattle.network.specs.inner.Feeders.{toward_at, away_at};
 ghost use Rattle.engine.specs.inner.Words.{walk_of, top_of};
@@ -31,10 +31,11 @@ pub fn top(feeder: &Feeder, v: usize) -> Units
 }
 
 // How many cells the row of v has.
-#[tactic(auto, using(crate::proofs::Shape::row_first, crate::proofs::Shape::row_kid, crate::proofs::Shape::row_not, crate::proofs::Shape::width_few))]
+#[tactic(auto, using(crate::proofs::Shape::row_first, crate::proofs::Shape::row_kid, crate::proofs::Shape::row_not, crate::proofs::Shape::width_few, crate::proofs::Shape::width_near))]
 pub fn row_len(feeder: &Feeder, v: usize) -> usize
     requires { v < feeder.now.members }
-    ensures { (own : ℕ → ℕ → ℕ) → result ≡ 1 + reach (walk_of feeder.now own) feeder.now.members v }
+    ensures few { result ≤ 2481 }
+    ensures joined { (own : ℕ → ℕ → ℕ) → result ≡ 1 + reach (walk_of feeder.now own) feeder.now.members v }
 {
     let mut len = 1 + width(feeder, v);
     for k in v + 1..feeder.members as usize {

@@ -10,24 +10,12 @@ use Rattle.std.proofs.Common.{rules}
 use Rattle.records.specs.Records.{entries}
 use Rattle.records.specs.Market.{offers_of}
 use Rattle.engine.specs.inner.Words.{own_of, form_of}
-use Rattle.engine.proofs.Shape.{shape, far}
+use Rattle.engine.proofs.Shape.{shape}
 use Rattle.engine.proofs.Parts.{fronts, whole, taken_whole}
 use Rattle.engine.proofs.Passes.{small, own_law}
 use Rattle.engine.proofs.Turns.{fallen, Asked, Turned, kid_law, turn_not, start_law, end_len, end_kept, end_sent}
 use Rattle.engine.proofs.upward.member.Goals as goal
-use Rattle.engine.proofs.upward.member.Goals.{After-width-w, After-row_len-len, At-loop-k}
-
--- the row is within its array
-fits : (c : After-row_len-len) → c.row_len-len.result ≤ 2481
-fits c =
-    let f = c.args.feeder.now in
-    let k = form_of f c.args.records.now in
-    let own = own_of f (offers_of (entries c.args.records.now)) in
-    let z = shape f own in
-    omega (arith, c.row_len-len.ensures own, far k _ z _ c.args.v c.requires.0, z.few)
-
-pub slice_bounds-own_row-end : goal.slice_bounds-own_row-end
-slice_bounds-own_row-end c = let h = fits (goal.at.slice_bounds-own_row-end c).After-row_len-len in search rules
+use Rattle.engine.proofs.upward.member.Goals.{After-width-w, At-loop-k}
 
 -- a child of v: what taking in its message asks, and how the row stands then
 kid : (c : After-width-w) → let f = c.args.feeder.now in let st = c.loop-k.stores in let i = c.loop-k.k - 1 in
@@ -41,17 +29,12 @@ kid c =
 front : (c : After-width-w) → length (take c.loop-k.len c.loop-k.row) ≡ c.loop-k.len
 front c = length-take-le c.loop-k.len c.loop-k.row (omega (arith, c.loop-k.invariant.gathered.rows, (kid c).0.0))
 
-pub slice_bounds-take_in-end : goal.slice_bounds-take_in-end
-slice_bounds-take_in-end c =
-    let s = (kid (goal.at.slice_bounds-take_in-end c).After-width-w).0.0 in
-    let h : c.loop-k.len ≤ 2481 = omega (arith, s) in
-    search rules
-
 pub overflow_sub-len : goal.overflow_sub-len
 overflow_sub-len c = let s = (kid (goal.at.overflow_sub-len c).After-width-w).0.0 in omega (arith, s)
 
 pub loop-k-preserved : goal.loop-k-preserved
 loop-k-preserved c = record {
+  few = omega arith;
   messages = c.loop-k.invariant.messages;
   gathered =
       let f = c.args.feeder.now in
@@ -61,11 +44,11 @@ loop-k-preserved c = record {
 pub loop-k-init : goal.loop-k-init
 loop-k-init c =
     let f = c.args.feeder.now in
-    let h = fits (goal.at.loop-k-init c).After-row_len-len in
     let n : length (take c.row_len-len.result c.args.row.now) ≡ c.row_len-len.result = search rules in
     record {
+      few = search rules;
       messages = refl;
-      gathered = start_law (form_of f c.args.records.now) f.members (shape f _) _ _ c.args.v _ _ refl c.requires.0 (c.row_len-len.ensures _)
+      gathered = start_law (form_of f c.args.records.now) f.members (shape f _) _ _ c.args.v _ _ refl c.requires.0 (c.row_len-len.ensures.joined _)
           (whole c.args.row.now c.own_row.new.row _ n c.own_row.auto.row ∙ omega arith)
           (own_law f c.args.records.now c.own_row.new.row _ c.args.v c.row_len-len.result _ c.top.result.0 n c.top.ensures c.own_row.auto.row c.own_row.ensures) c.requires.1.kept;
     }
@@ -88,6 +71,7 @@ loop-k-preserved-then-feeder-k c =
     let n = front b in
     let k = kid b in
     record {
+      few = omega arith;
       messages = set-get_or c.loop-k.stores.messages _ [] ∙ c.loop-k.invariant.messages;
       gathered = k.1 _ _ (taken_whole _ c.loop-k.row _ c.take_in.new.row _ _ _ _ _ n c.take_in.ensures c.take_in.auto.row k.0.0.3)
           (whole c.loop-k.row c.take_in.new.row _ n c.take_in.auto.row);
@@ -100,9 +84,6 @@ ends c q =
     let k = form_of f c.args.records.now in
     let z = shape f (own_of f (offers_of (entries c.args.records.now))) in
     omega (arith, end_len k _ z c.loop-k.invariant.gathered q, z.narrow c.args.v)
-
-pub shared_ref_as_front-put_message : goal.shared_ref_as_front-put_message
-shared_ref_as_front-put_message c = omega (arith, ends (goal.at.shared_ref_as_front-put_message c).At-loop-k c.loop-k-test.false)
 
 pub put_message-requires : goal.put_message-requires
 put_message-requires c = let h = ends (goal.at.put_message-requires c).At-loop-k c.loop-k-test.false in search rules
