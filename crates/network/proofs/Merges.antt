@@ -12,7 +12,7 @@ use lib.Dec.{eqb}
 use lib.Bits.{bit_or}
 use lib.ListN.{length, get_or}
 use borrow.Author.Count.{below_more}
-use Rattle.numbers.proofs.Tests.{true_false, or_left, or_right}
+use Rattle.std.proofs.lemmas.Bool.{true≢false, or_left, or_right}
 use Rattle.problem.specs.Problem.{Link, neighbours}
 use Rattle.problem.proofs.Tree.{Joined, Open, Within}
 use Rattle.problem.proofs.Tree.Joined.{same, step}
@@ -26,7 +26,7 @@ use Rattle.network.proofs.Bit.{holds_or, holds_one}
 -- ---- members that are joined have the same label
 
 neighbours_lab : (ls : List Link) (u v : ℕ) → neighbours ls u v ≡ true → lab ls u ≡ lab ls v
-neighbours_lab [] u v h = absurd (true_false (sym h))
+neighbours_lab [] u v h = cc
 neighbours_lab (l ∷ ls) u v h = grind (arith, h, joins_ends l u v, lab_a l ls, lab_b l ls, lab_more l ls u v, neighbours_lab ls u v)
 
 joined_lab : {ls : List Link} {u v : ℕ} → Joined ls u v → lab ls u ≡ lab ls v
@@ -93,7 +93,7 @@ module _ (ls : List Link) (ms : ℕ → ℕ) (k : ℕ) (K : Keeps ls ms k) where
   pub not_closing : (a b : ℕ) → (a ≡ b → ⊥) → ((e : ℕ) → e < k → (holds (ms e) a && holds (ms e) b) ≡ false) → Joined ls (suc a) (suc b) → ⊥
   not_closing a b d h j =
       let q = K.cover a b d (joined_lab j) in
-      true_false (sym (ap₂ ◌&&◌ q.2 (K.class q.0 q.1 a b q.2 (joined_lab j))) ∙ h q.0 q.1)
+      true≢false (sym (ap₂ ◌&&◌ q.2 (K.class q.0 q.1 a b q.2 (joined_lab j))) ∙ h q.0 q.1)
 
   module _ (a b v : ℕ) where
     gather_parts : (j : ℕ) → j ≤ k → holds (gather ms a b j) v ≡ true → Part ls (suc a) (suc b) (suc v)

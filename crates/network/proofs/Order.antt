@@ -20,7 +20,7 @@ use Rattle.network.specs.declared.walk.Step.{Step}
 use Rattle.problem.specs.Problem.{Link, neighbours, lowest}
 use Rattle.problem.proofs.Tree.{Within}
 use Rattle.problem.proofs.Count.{lowest_is, lowest_hit}
-use Rattle.numbers.proofs.Tests.{and_true}
+use Rattle.std.proofs.lemmas.Bool.{and_parts}
 use Rattle.problem.proofs.Links.{neighbours_in}
 use Rattle.problem.proofs.Steps.{Hop, Walked, at_pos, at_before, at_latest, at_in, walk_room, reached, free, on_from, hops, walk_walked, Finished, not_some, on_fresh}
 use Rattle.problem.proofs.Places.{from_before, from_latest}
@@ -35,7 +35,7 @@ module _ (ls : List Link) (n : ℕ) (adj : List Members) (A : Adj ls n adj) (t :
   mask_lt v = lt_of_le_of_lt (and_le_r (set_in adj v) ((2 ^ 32 - 1) - mask)) (ones_sub-lt 32 mask)
 
   free_in : (v w : ℕ) → free ls t v w ≡ true → (1 ≤ w) × (w ≤ n)
-  free_in v w h = neighbours_in n ls A.within v w (and_true (neighbours ls v w) (not (reached t w)) h).0
+  free_in v w h = neighbours_in n ls A.within v w (and_parts (neighbours ls v w) (not (reached t w)) h).0
 
   -- member w is free nowhere in an empty set
   no_free : (v w : ℕ) → v < n → free_mask (set_in adj v) mask ≡ 0 → free ls t (suc v) w ≡ true → ⊥

@@ -6,17 +6,18 @@ use mathlib.Core.Bool.{Bool, true, false, cond}
 use mathlib.Core.List.{List, [], ◌∷◌, map, Memᴰ}
 use mathlib.Core.Option.{Option, none, some}
 use Prim.Native.Nat.{ℕ, suc, ◌+◌, ◌*◌, ◌≤◌, ◌<◌, pred}
-use native.Mathlib.Nat.{mul-add, add-mul, mul-suc, mul-zero, mul-le-mul_left, lt_of_mul-lt-mul_left, le_of_suc-le-suc}
+use native.Mathlib.Nat.{mul-add, mul-suc, mul-zero, mul-le-mul_left, lt_of_mul-lt-mul_left, le_of_suc-le-suc}
 use native.Mathlib.Omega.{arith}
 use lib.IntN.{ℤ, pos, nat_abs, ◌+ℤ◌, ◌-ℤ◌, ◌*ℤ◌}
-use lib.Signed.{◌≤ℤ◌, ≤ℤ_refl}
+use lib.Signed.{◌≤ℤ◌}
 use Rattle.numbers.specs.Whole.{eq_z, within}
-use Rattle.numbers.proofs.Signs.{up, dn, added, taken, equal, le_to, le_from}
+use borrow.Author.Differences.{up, down}
+use Rattle.std.proofs.lemmas.Int.{ints, unsigned_abs-mul}
 use Rattle.numbers.proofs.Tests.{eq_z_true, eq_z_same, within_true, true_within}
-use Rattle.numbers.proofs.Times.{times_up, times_dn, times_abs, times_plus, times_swap, plus_times}
+use Rattle.numbers.proofs.Times.{times_plus, times_swap, plus_times}
 use Rattle.problem.specs.Problem.{Terms, Offer, worth, value}
 use Rattle.problem.specs.Fractions.{terms_in, offer_in}
-use Rattle.problem.proofs.Values.{le_trans, some_same, no_price, Tops, value_given, value_highest}
+use Rattle.problem.proofs.Values.{some_same, no_price, Tops, value_given, value_highest}
 use Rattle.problem.proofs.Prices.{cell_of, Priced}
 use Rattle.problem.proofs.Spans.{limit_of, limit, priced_limit}
 use Rattle.problem.proofs.Choices.{apart}
@@ -28,12 +29,12 @@ use Rattle.problem.proofs.Finer.{Mixed, Finer, scale_le}
 module _ (d : ℕ) where
   limit_of_lem : (t : Terms) → limit_of (terms_in d t) ≡ d * limit_of t
   unfolding limit_of terms_in
-  limit_of_lem (Terms.point units price) = times_abs (pos d) price
+  limit_of_lem (Terms.point units price) = unsigned_abs-mul (pos d) price
   limit_of_lem (Terms.span low high slope base) =
       ap₂ ◌+◌ (end low) (end high) ∙ sym (mul-add d (nat_abs ((slope *ℤ low) +ℤ base)) (nat_abs ((slope *ℤ high) +ℤ base)))
     where
       end : (x : ℤ) → nat_abs ((slope *ℤ (pos d *ℤ x)) +ℤ (pos d *ℤ base)) ≡ d * nat_abs ((slope *ℤ x) +ℤ base)
-      end x = ap nat_abs (line_times d slope x base) ∙ times_abs (pos d) ((slope *ℤ x) +ℤ base)
+      end x = ap nat_abs (line_times d slope x base) ∙ unsigned_abs-mul (pos d) ((slope *ℤ x) +ℤ base)
 
   limit_in : (os : List Offer) → limit (map (offer_in d) os) ≡ d * limit os
   unfolding limit
@@ -47,11 +48,11 @@ module _ (d : ℕ) where
 
 -- z d-ths are X units less r d-ths
 abbrev Less : ℕ → ℤ → ℤ → ℕ → Type 0
-Less d z X r = up z + (r + d * dn X) ≡ dn z + d * up X
+Less d z X r = up z + (r + d * down X) ≡ down z + d * up X
 
 -- X1 is one unit less than X
 abbrev OneLess : ℤ → ℤ → Type 0
-OneLess X1 X = up X1 + suc (dn X) ≡ dn X1 + up X
+OneLess X1 X = up X1 + suc (down X) ≡ down X1 + up X
 
 -- the worth p in d-ths is a times the worth at X and r times that at X1, both being there where they count
 record Split (t : Terms) (X X1 : ℤ) (a r : ℕ) (p : ℤ) : Type 0 where
@@ -63,9 +64,7 @@ record Split (t : Terms) (X X1 : ℤ) (a r : ℕ) (p : ℤ) : Type 0 where
 
 -- two sums added the other way round
 sums_swap : (u v w x : ℤ) → (u +ℤ v) +ℤ (w +ℤ x) ≡ (u +ℤ w) +ℤ (v +ℤ x)
-sums_swap u v w x =
-    equal ((u +ℤ v) +ℤ (w +ℤ x)) ((u +ℤ w) +ℤ (v +ℤ x))
-    (omega (arith, added (u +ℤ v) (w +ℤ x), added u v, added w x, added (u +ℤ w) (v +ℤ x), added u w, added v x))
+sums_swap u v w x = omega (arith, ints)
 
 module _ (d a r : ℕ) (e : a + r ≡ d) (ha : 1 ≤ a) (z X X1 : ℤ) (less : Less d z X r) (under : OneLess X1 X) where
   -- whole units in order, where their d-ths are but for less than a unit
@@ -74,48 +73,24 @@ module _ (d a r : ℕ) (e : a + r ≡ d) (ha : 1 ≤ a) (z X X1 : ℤ) (less : L
 
   -- the whole units on both sides are within the ends
   near_high : (h : ℤ) → z ≤ℤ (pos d *ℤ h) → X ≤ℤ h
-  near_high h l =
-      le_from X h
-      (units_le (up X + dn h) (dn X + up h) r (omega arith)
-      (omega (arith, le_to l, times_up d h, times_dn d h, mul-add d (dn X) (up h), mul-add d (up X) (dn h))))
+  near_high h l = let k = units_le (up X + down h) (up h + down X) r (omega arith) (omega (arith, ints)) in omega (arith, ints)
 
   near_low : (l : ℤ) → (pos d *ℤ l) ≤ℤ z → l ≤ℤ X
-  near_low l h =
-      le_from l X
-      (units_le (up l + dn X) (dn l + up X) 0 (omega arith)
-      (omega (arith, le_to h, times_up d l, times_dn d l, mul-add d (dn l) (up X), mul-add d (up l) (dn X))))
+  near_low l h = let k = units_le (up l + down X) (up X + down l) 0 (omega arith) (omega (arith, ints)) in omega (arith, ints)
 
   far_low : (l : ℤ) → (pos d *ℤ l) ≤ℤ z → r ≢ 0 → l ≤ℤ X1
-  far_low l h n =
-      let k : suc (up l + dn X) ≤ dn l + up X =
-      units_le (suc (up l + dn X)) (dn l + up X) a (omega arith)
-      (omega (arith, le_to h, times_up d l, times_dn d l, mul-suc d (up l + dn X), mul-add d (dn l) (up X), mul-add d (up l) (dn X))) in
-      le_from l X1 (omega (arith, under))
+  far_low l h n = let k = units_le (suc (up l + down X)) (up X + down l) a (omega arith) (omega (arith, ints)) in omega (arith, ints)
 
   far_high : (h : ℤ) → z ≤ℤ (pos d *ℤ h) → X1 ≤ℤ h
-  far_high h l = le_trans (le_from X1 X (omega (arith, under))) (near_high h l)
+  far_high h l = let k = near_high h l in omega (arith, ints)
 
   -- z, and the price on a span's line there, are a times what they are at X and r times what they are at X1
   z_splits : z ≡ (pos a *ℤ X) +ℤ (pos r *ℤ X1)
   z_splits =
-      equal z ((pos a *ℤ X) +ℤ (pos r *ℤ X1))
-      (omega (
-        arith,
-        added (pos a *ℤ X) (pos r *ℤ X1),
-        times_up a X,
-        times_dn a X,
-        times_up r X1,
-        times_dn r X1,
-        less,
-        ap (λ (k : ℕ). k * up X) e,
-        ap (λ (k : ℕ). k * dn X) e,
-        add-mul a r (up X),
-        add-mul a r (dn X),
-        ap (λ (k : ℕ). r * k) under,
-        mul-add r (up X1) (suc (dn X)),
-        mul-suc r (dn X),
-        mul-add r (dn X1) (up X),
-      ))
+      let f = ap (λ (k : ℕ). k * up X) e in
+      let g = ap (λ (k : ℕ). k * down X) e in
+      let h = ap (λ (k : ℕ). r * k) under in
+      omega (arith, ints)
 
   d_splits : (b : ℤ) → pos d *ℤ b ≡ (pos a *ℤ b) +ℤ (pos r *ℤ b)
   d_splits b = ap (λ (k : ℕ). pos k *ℤ b) (sym e) ∙ plus_times (pos a) (pos r) b
@@ -136,14 +111,14 @@ module _ (d a r : ℕ) (e : a + r ≡ d) (ha : 1 ≤ a) (z X X1 : ℤ) (less : L
       go false t q = absurd (no_price q)
       go true t q =
           let s : z ≡ pos d *ℤ units = eq_z_true z (pos d *ℤ units) t in
-          let lo : (pos d *ℤ units) ≤ℤ z = subst (λ (y : ℤ). (pos d *ℤ units) ≤ℤ y) (sym s) (≤ℤ_refl (pos d *ℤ units)) in
-          let hi : z ≤ℤ (pos d *ℤ units) = subst (λ (y : ℤ). y ≤ℤ (pos d *ℤ units)) (sym s) (≤ℤ_refl (pos d *ℤ units)) in
-          let x : X ≡ units = equal X units (omega (arith, le_to (near_low units lo), le_to (near_high units hi))) in
+          let lo : (pos d *ℤ units) ≤ℤ z = omega (arith, ints) in
+          let hi : z ≤ℤ (pos d *ℤ units) = omega (arith, ints) in
+          let x : X ≡ units = omega (arith, ints, near_low units lo, near_high units hi) in
           record {
             near = price;
             far = price;
             at_near = ap (λ (b : Bool). cond b (some price) none) (eq_z_same X units x);
-            at_far = λ n. absurd (omega (arith, le_to (far_low units lo n), le_to (near_high units hi), under));
+            at_far = λ n. absurd (omega (arith, ints, far_low units lo n, near_high units hi));
             splits = sym (some_same q) ∙ d_splits price;
           }
   between (Terms.span low high slope base) p = go (within (pos d *ℤ low) (pos d *ℤ high) z) refl
@@ -176,7 +151,7 @@ tops_cell : (B : ℕ) (v : Option ℤ) (q : ℤ) → Tops v q → (cell_of B v �
 unfolding cell_of
 tops_cell B none q h = absurd h
 tops_cell B (some p) q h =
-    (λ e. omega arith, omega (arith, le_to h, added q (pos B), added p (pos B), apart (q +ℤ pos B), apart (p +ℤ pos B)))
+    (λ e. omega arith, omega (arith, ints, apart))
 
 -- a table's cell is no lower than that of an offer in it
 offer_cell : (B : ℕ) (os : List Offer) (j : ℕ) (o : Offer) → Memᴰ o os → j ≡ o.member → (x q : ℤ) → worth o.terms x ≡ some q
@@ -185,26 +160,9 @@ offer_cell B os j o mem e x q g = tops_cell B (value os j x) q (subst (λ (w : �
 
 mix_cell : (B a r : ℕ) (q s : ℤ) → up (((pos a *ℤ q) +ℤ (pos r *ℤ s)) +ℤ pos ((a + r) * B)) ≤ a * up (q +ℤ pos B) + r * up (s +ℤ pos B)
 mix_cell B a r q s =
-    let P = (pos a *ℤ q) +ℤ (pos r *ℤ s) in
-    let hq : up q + B ≤ up (q +ℤ pos B) + dn q = omega (arith, added q (pos B)) in
-    let hs : up s + B ≤ up (s +ℤ pos B) + dn s = omega (arith, added s (pos B)) in
-    omega (
-      arith,
-      added P (pos ((a + r) * B)),
-      apart (P +ℤ pos ((a + r) * B)),
-      added (pos a *ℤ q) (pos r *ℤ s),
-      times_up a q,
-      times_dn a q,
-      times_up r s,
-      times_dn r s,
-      mul-le-mul_left a hq,
-      mul-le-mul_left r hs,
-      mul-add a (up q) B,
-      mul-add a (up (q +ℤ pos B)) (dn q),
-      mul-add r (up s) B,
-      mul-add r (up (s +ℤ pos B)) (dn s),
-      add-mul a r B,
-    )
+    let hq : up q + B ≤ up (q +ℤ pos B) + down q = omega (arith, ints) in
+    let hs : up s + B ≤ up (s +ℤ pos B) + down s = omega (arith, ints) in
+    omega (arith, ints, apart, mul-le-mul_left a hq, mul-le-mul_left r hs)
 
 -- the cell of an offer's worth in d-ths is under the line between the table's cells at X and X1
 offer_mixed : (B d a r : ℕ) → a + r ≡ d → (os : List Offer) (j : ℕ) (o : Offer) → Memᴰ o os → j ≡ o.member → (W t : ℕ) (p : ℤ)
@@ -242,11 +200,11 @@ cell_finer B d os j W y t a r e ha ey n = go (value (map (offer_in d) os) j z) r
 
     less : Less d z X r
     less =
-        let e : up X + t ≡ dn X + W = omega (arith, taken (pos W) (pos t)) in
-        omega (arith, taken (pos (d * W)) (pos y), ey, ap (λ (k : ℕ). d * k) e, mul-add d (up X) t, mul-add d (dn X) W)
+        let e : up X + t ≡ down X + W = omega (arith, ints) in
+        omega (arith, ints, ap (λ (k : ℕ). d * k) e)
 
     under : OneLess (pos W -ℤ pos (suc t)) X
-    under = omega (arith, taken (pos W) (pos t), taken (pos W) (pos (suc t)))
+    under = omega (arith, ints)
 
     go : (v : Option ℤ) → value (map (offer_in d) os) j z ≡ v → cell_of (d * B) v ≢ 0 → Mixed (λ x. cell_of B (value os j (pos W -ℤ pos x))) t a r (pred (cell_of (d * B) v))
     go none s k = absurd (k refl)

@@ -9,8 +9,8 @@ use native.Mathlib.Omega.{arith}
 use lib.ListN.{length, length-map}
 use lib.IntN.{ℤ, pos, ◌-ℤ◌, ◌*ℤ◌}
 use lib.Signed.{◌≤ℤ◌}
-use Rattle.numbers.proofs.Signs.{up, dn, taken, le_to, le_from}
-use Rattle.numbers.proofs.Times.{times_up, times_dn}
+use borrow.Author.Differences.{up, down}
+use Rattle.std.proofs.lemmas.Int.{ints}
 use Rattle.problem.specs.Problem.{Market, value, Impossible, Best}
 use Rattle.problem.specs.Fractions.{link_in, offer_in, market_in, PossibleIn, ImpossibleIn, HighestIn, flows_in}
 use Rattle.problem.proofs.Tree.{Tree}
@@ -80,20 +80,9 @@ module _ (m : Market) (R : Tree m) (d : ℕ) (from-1 : 1 ≤ d) where
   fractions_no_more ys t b zs u p =
       let c = pred (best B m) in
       let N = m.members * B in
-      let cost : c + dn t ≤ up t + N = omega (arith, le_to (b.highest _ _ (found zs u p).possible), taken (pos c) (pos N)) in
-      le_from u (pos d *ℤ t)
-      (omega (
-        arith,
-        le_to (under zs u p),
-        taken (pos (pred (best (d * B) dths))) (pos (m.members * (d * B))),
-        (best_no_more (there zs u p)).1,
-        times_up d t,
-        times_dn d t,
-        mul-le-mul_left d cost,
-        mul-add d c (dn t),
-        mul-add d (up t) N,
-        mul_left_comm m.members d B,
-      ))
+      let cost : c + down t ≤ up t + N = let h = b.highest _ _ (found zs u p).possible in omega (arith, ints) in
+      let h = under zs u p in
+      omega (arith, ints, (best_no_more (there zs u p)).1, mul-le-mul_left d cost, mul_left_comm m.members d B)
 
   -- So the best in d-ths is the whole-unit answer, as d-ths.
   pub fractions_highest : (ys : List ℤ) (t : ℤ) → Best m ys t → HighestIn d m (flows_in d ys) (pos d *ℤ t)

@@ -6,10 +6,10 @@ use mathlib.Core.List.{List, [], ◌∷◌}
 use mathlib.Core.Option.{Option, none, some}
 use Prim.Native.Nat.{ℕ, ◌+◌, ◌≤◌}
 use native.Mathlib.Omega.{arith}
-use lib.IntN.{ℤ, pos, neg_ℤ, nat_abs, ◌+ℤ◌, ◌*ℤ◌}
+use lib.IntN.{ℤ, nat_abs, ◌+ℤ◌, ◌*ℤ◌}
 use lib.Signed.{◌≤ℤ◌}
 use Rattle.numbers.specs.Whole.{eq_z, within}
-use Rattle.numbers.proofs.Signs.{added, up_neg, dn_neg, le_to, le_from}
+use Rattle.std.proofs.lemmas.Int.{ints}
 use Rattle.numbers.proofs.Tests.{within_true}
 use Rattle.numbers.proofs.Times.{abs_between, times_between}
 use Rattle.problem.specs.Problem.{Terms, Offer, worth}
@@ -17,7 +17,7 @@ use Rattle.problem.proofs.Prices.{Low, Limited, limited_low, Priced, worths_map}
 use Rattle.problem.proofs.Values.{le_trans}
 
 plus_le : (u v b : ℤ) → u ≤ℤ v → (u +ℤ b) ≤ℤ (v +ℤ b)
-plus_le u v b h = le_from (u +ℤ b) (v +ℤ b) (omega (arith, le_to h, added u b, added v b))
+plus_le u v b h = omega (arith, ints)
 
 -- where the prices at both ends are from -B to B, so are those between
 pub span_between : (B : ℕ) (low high slope base x : ℤ) → low ≤ℤ x → x ≤ℤ high
@@ -65,7 +65,7 @@ terms_limited (Terms.span low high slope base) x =
 
 low_more : {B C : ℕ} → B ≤ C → (v : Option ℤ) → Low B v → Low C v
 low_more h none l = tt
-low_more {B} {C} h (some p) l = le_from (neg_ℤ (pos C)) p (omega (arith, le_to l, up_neg (pos B), dn_neg (pos B), up_neg (pos C), dn_neg (pos C)))
+low_more h (some p) l = omega (arith, ints)
 
 pub priced_limit : (os : List Offer) → Priced (limit os) os
 unfolding limit

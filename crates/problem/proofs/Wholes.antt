@@ -10,8 +10,10 @@ use lib.Dec.{eqb}
 use lib.IntN.{ℤ, pos, ◌+ℤ◌, ◌-ℤ◌, ◌*ℤ◌, *ℤ-zero}
 use lib.Signed.{le_z}
 use Rattle.numbers.specs.Whole.{eq_z, within}
-use Rattle.numbers.proofs.Tests.{true_false, bool_cases, eq_z_same, eq_z_true, eq_z_other, le_z_agree}
-use Rattle.numbers.proofs.Times.{times_abs, times_le, times_le_back, times_same, times_plus, times_minus, times_swap, one_times}
+use native.Mathlib.Omega.{arith}
+use Rattle.std.proofs.lemmas.Int.{ints, unsigned_abs-mul}
+use Rattle.numbers.proofs.Tests.{eq_z_same, eq_z_true}
+use Rattle.numbers.proofs.Times.{times_le, times_le_back, times_same, times_plus, times_minus, times_swap, one_times}
 use Rattle.problem.specs.Problem.{Link, Terms, Offer, Market, bought, sold, net, worth, offered, higher, value, plus, total_to, total, InRange, Possible}
 use Rattle.problem.specs.Fractions.{link_in, terms_in, offer_in, market_in, PossibleIn, flows_in}
 use Rattle.problem.proofs.Flows.{share, net_more}
@@ -65,7 +67,7 @@ module _ (d : ℕ) where
 
   range_times : {ls : List Link} {ys : List ℤ} → InRange ls ys → InRange (map (link_in d) ls) (flows_in d ys)
   range_times InRange.end = InRange.end
-  range_times (InRange.flow {l = l} {y = y} h r) = InRange.flow {l = link_in d l} {y = pos d *ℤ y} (rw (times_abs (pos d) y) (mul-le-mul_left d h)) (range_times r)
+  range_times (InRange.flow {l = l} {y = y} h r) = InRange.flow {l = link_in d l} {y = pos d *ℤ y} (rw (unsigned_abs-mul (pos d) y) (mul-le-mul_left d h)) (range_times r)
 
   -- the price on a span's line in d-ths, for d times the units
   pub line_times : (slope x base : ℤ) → (slope *ℤ (pos d *ℤ x)) +ℤ (pos d *ℤ base) ≡ pos d *ℤ ((slope *ℤ x) +ℤ base)
@@ -79,13 +81,10 @@ times d (some p) = some (pos d *ℤ p)
 
 module _ (d : ℕ) (from-1 : 1 ≤ d) where
   le_z_times : (x y : ℤ) → le_z (pos d *ℤ x) (pos d *ℤ y) ≡ le_z x y
-  le_z_times x y = le_z_agree (pos d *ℤ x) (pos d *ℤ y) x y (times_le_back d x y from-1) (times_le d)
+  le_z_times x y = grind (arith, ints, times_le, times_le_back)
 
   eq_z_times : (x y : ℤ) → eq_z (pos d *ℤ x) (pos d *ℤ y) ≡ eq_z x y
-  eq_z_times x y =
-      bool_cases (eq_z x y) (λ b. eq_z (pos d *ℤ x) (pos d *ℤ y) ≡ b)
-      (λ e. eq_z_same (pos d *ℤ x) (pos d *ℤ y) (ap (λ (z : ℤ). pos d *ℤ z) (eq_z_true x y e)))
-      (λ e. eq_z_other (pos d *ℤ x) (pos d *ℤ y) (λ s. true_false (sym (eq_z_same x y (times_same d x y from-1 s)) ∙ e)))
+  eq_z_times x y = grind (arith, ints, eq_z_true, eq_z_same, times_same d)
 
   -- a price or none, by a test
   if_times : (b : Bool) (p : ℤ) → cond b (some (pos d *ℤ p)) none ≡ times d (cond b (some p) none)

@@ -11,7 +11,7 @@ use lib.Dec.{eqb, ltb}
 use lib.ListN.{length}
 use Rattle.std.proofs.lemmas.Bool.Decides.{nat_tests}
 use Rattle.std.specs.Prelude.{Err}
-use Rattle.numbers.proofs.Tests.{true_false}
+use Rattle.std.proofs.lemmas.Bool.{true≢false}
 use Rattle.records.specs.declared.Refusal as D
 use Rattle.records.specs.inner.Cases.{number_of, rule_of, refusal_of, refusal_in, unless}
 use Rattle.records.proofs.Rules.{number_of_rule}
@@ -29,7 +29,7 @@ pub record Allowed (r : Refusal) : Type 0 where
   pub place : r.place < 65536
 
 pub unlisted : (k : ℕ) → listed k ≡ false → {r : Refusal} → Allowed r → r.number ≡ k → ⊥
-unlisted k n a e = true_false (sym a.number ∙ ap listed e ∙ n)
+unlisted k n a e = true≢false (sym a.number ∙ ap listed e ∙ n)
 
 -- the refusal, if there is one, is allowed
 abbrev pub IfAllowed : Option Refusal → Type 0

@@ -16,7 +16,8 @@ use borrow.Author.Tests.{ltb-false}
 use Rattle.numbers.specs.declared.Member.{Member}
 use Rattle.numbers.specs.declared.Units.{Units}
 use Rattle.std.proofs.lemmas.Bool.Decides.{nat_tests}
-use Rattle.numbers.proofs.Tests.{bool_cases, and_true, within_true}
+use Rattle.std.proofs.lemmas.Bool.{and_parts, cond_both}
+use Rattle.numbers.proofs.Tests.{within_true}
 use Rattle.problem.specs.Problem as P
 use Rattle.problem.specs.Problem.{Link, Offer, worth}
 use Rattle.problem.proofs.Prices.{Limited}
@@ -157,7 +158,7 @@ pub record Known (k : ℕ) (e : Entry) : Type 0 where
   pub member_is : MemberIs k e
 
 either : (k : ℕ) (t : Bool) (x y : Entry) → (t ≡ true → Known k x) → (t ≡ false → Known k y) → Known k (cond t x y)
-either k t x y f g = bool_cases t (λ b. Known k (cond b x y)) f g
+either k t x y f g = cond_both t x y (Known k) f g
 
 known_fault : (k n : ℕ) → Fits (fault n) → Known k (fault n)
 known_fault k n h = record { fits = h; member_is = tt }
@@ -183,8 +184,8 @@ unfolding point_of
 point_known j x p =
     either j (is_member j && is_units x && is_price p) (offer (record { member = j; terms = P.Terms.point x p })) (fault 4)
     (λ e.
-    let e2 = and_true (is_member j && is_units x) (is_price p) e in
-    let e1 = and_true (is_member j) (is_units x) e2.0 in
+    let e2 = and_parts (is_member j && is_units x) (is_price p) e in
+    let e1 = and_parts (is_member j) (is_units x) e2.0 in
     record { fits = record { member = is_member_lem j e1.0; worths = point_limited 1000000 x p (is_price_lem p e2.1) }; member_is = refl })
     (λ e. known_fault j 4 (inr (inl refl)))
 
@@ -208,7 +209,7 @@ module _ (f : List ℕ) (i : ℕ) where
       either (byte f i 1) (fields_fit f i) _ _
       (λ e.
       either (byte f i 1) (unfinished f i) (fault 13) (begins (byte f i 1)) (λ d. known_fault (byte f i 1) 13 (inr (inr (inl refl))))
-      (λ d. record { fits = is_member_lem (byte f i 1) (and_true (is_member (byte f i 1)) (is_units (units_at f i)) e).0; member_is = tt }))
+      (λ d. record { fits = is_member_lem (byte f i 1) (and_parts (is_member (byte f i 1)) (is_units (units_at f i)) e).0; member_is = tt }))
       (λ e. known_fault (byte f i 1) 4 (inr (inl refl)))
 
   span_at_known : Known (byte f i 1) (span_at f i)
@@ -217,7 +218,7 @@ module _ (f : List ℕ) (i : ℕ) where
       either (byte f i 1) (fields_fit f i) _ _
       (λ e.
       either (byte f i 1) (unbegun f i) _ _ (λ d. known_fault (byte f i 1) 13 (inr (inr (inl refl))))
-      (λ d. span_known (byte f i 1) _ _ _ _ (is_member_lem (byte f i 1) (and_true (is_member (byte f i 1)) (is_units (units_at f i)) e).0)))
+      (λ d. span_known (byte f i 1) _ _ _ _ (is_member_lem (byte f i 1) (and_parts (is_member (byte f i 1)) (is_units (units_at f i)) e).0)))
       (λ e. known_fault (byte f i 1) 4 (inr (inl refl)))
 
   pub entry_known : Known (byte f i 1) (entry_at f i)

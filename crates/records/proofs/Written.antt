@@ -9,7 +9,7 @@ use lib.Dec.{eqb}
 use lib.ListN.{length, length-append}
 use lib.IntN.{ℤ}
 use Rattle.std.proofs.lemmas.Bool.Decides.{nat_tests}
-use Rattle.numbers.proofs.Tests.{or_left, or_right}
+use Rattle.std.proofs.lemmas.Bool.{or_left, or_right}
 use Rattle.problem.specs.Problem.{Link, Market, joins, neighbours}
 use Rattle.problem.proofs.Tree.{Tree, Open, Within}
 use Rattle.problem.proofs.Tree.Joined.{same, step}

@@ -13,9 +13,9 @@ use lib.ListN.{length, get_or, set, length-set}
 use lib.Seq.{get_or-set_same, get_or-set_other}
 use lib.Signed.{le_z}
 use borrow.Author.Count.{below_more}
-use borrow.Author.Tests.{le-leb, lt-leb, lt-ltb, le-ltb, ltb-true, ltb-false}
+use borrow.Author.Tests.{le-leb, lt-leb, lt-ltb, le-ltb}
 use Rattle.numbers.specs.Whole.{within}
-use Rattle.numbers.proofs.Tests.{bool_cases, within_true}
+use Rattle.numbers.proofs.Tests.{within_true}
 use Rattle.numbers.proofs.Times.{times_less}
 use Rattle.problem.specs.Problem.{worth}
 use Rattle.problem.proofs.Prices.{cell_of}
@@ -108,5 +108,4 @@ module _ (s : Span) (top : ℤ) (row₀ : List ℕ) (from end : ℕ) (C : Covere
 
     pub put_done : end ≤ x → (y : ℕ) → y < length row₀ → get_or row y 0 ≡ max (get_or row₀ y 0) (cell_in s (top -ℤ pos y))
     put_done h y l =
-        bool_cases (ltb y x) (λ t. get_or row y 0 ≡ max (get_or row₀ y 0) (cell_in s (top -ℤ pos y))) (λ t. I.put y (ltb-true y x t) l)
-        (λ t. omega (arith, I.left y (ltb-false y x t), after s top (length row₀) from end C y l (omega (arith, ltb-false y x t))))
+        grind (arith, I.put y, I.left y, after s top (length row₀) from end C y l)

@@ -1,5 +1,5 @@
 -- A price as a cell: cells keep the order of prices, and a cell that is not none gives its price back. Assumes nothing.
-use mathlib.Core.Path.{◌≡◌, refl, ap, ◌∙◌}
+use mathlib.Core.Path.{◌≡◌, refl, ap}
 use mathlib.Core.Option.{Option, none, some}
 use Prim.Native.Nat.{ℕ, suc, ◌+◌, ◌-◌, ◌≤◌, max}
 use native.Mathlib.Omega.{arith}
@@ -9,7 +9,6 @@ use lib.Signed.{◌≤ℤ◌}
 use Rattle.std.specs.Prelude.{Some, None}
 use Rattle.numbers.specs.declared.Price.{Price}
 use Rattle.numbers.specs.inner.Held.{price}
-use Rattle.numbers.proofs.Signs.{up, added, taken, up_neg, dn_neg, equal, le_to}
 use Rattle.problem.specs.Problem.{higher}
 use Rattle.problem.proofs.Choices.{apart}
 use Rattle.problem.proofs.Prices.{cell_of, Limited}
@@ -25,14 +24,12 @@ cell_higher B (some p) (some q) = grind (arith, ints)
 -- ---- the cell of a price in range
 pub cell_is : (B : ℕ) (p : ℤ) → neg_ℤ (pos B) ≤ℤ p → p +ℤ pos (suc B) ≡ pos (cell_of B (some p))
 unfolding cell_of
-cell_is B p l =
-    equal (p +ℤ pos (suc B)) (pos (suc (up (p +ℤ pos B))))
-    (omega (arith, added p (pos (suc B)), added p (pos B), apart (p +ℤ pos B), le_to l, up_neg (pos B), dn_neg (pos B)))
+cell_is B p l = omega (arith, ints, apart)
 
 pub cell_top : (B : ℕ) (v : Option ℤ) → Limited B v → cell_of B v ≤ suc (B + B)
 unfolding cell_of
 cell_top B none h = omega arith
-cell_top B (some p) h = omega (arith, le_to h.1, added p (pos B), apart (p +ℤ pos B))
+cell_top B (some p) h = omega (arith, ints, apart)
 
 -- ---- from a cell back to its price
 pub none_back : (B : ℕ) (v : Option ℤ) → cell_of B v ≡ 0 → None ≡ worth_of v
@@ -44,6 +41,4 @@ pub price_back : (B : ℕ) (v : Option ℤ) (q : Price) → Limited B v → 1 �
 unfolding cell_of
 price_back B none q l h e = absurd (omega arith)
 price_back B (some p) q l h e =
-    let n = suc (up (p +ℤ pos B)) in
-    ap (λ (z : ℤ). Some (price z))
-    (e ∙ equal (pos (n - 1) -ℤ pos B) p (omega (arith, taken (pos (n - 1)) (pos B), added p (pos B), apart (p +ℤ pos B), le_to l.0, up_neg (pos B), dn_neg (pos B))))
+    ap (λ (z : ℤ). Some (price z)) (omega (arith, ints, apart))
