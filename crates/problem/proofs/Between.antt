@@ -17,7 +17,7 @@ use Rattle.numbers.proofs.Tests.{eq_z_true, eq_z_same, within_true, true_within}
 use Rattle.numbers.proofs.Times.{times_plus, times_swap, plus_times}
 use Rattle.problem.specs.Problem.{Terms, Offer, worth, value}
 use Rattle.problem.specs.Fractions.{terms_in, offer_in}
-use Rattle.problem.proofs.Values.{some_same, no_price, Tops, value_given, value_highest}
+use Rattle.problem.proofs.Values.{some_same, Tops, value_given, value_highest}
 use Rattle.problem.proofs.Prices.{cell_of, Priced}
 use Rattle.problem.proofs.Spans.{limit_of, limit, priced_limit}
 use Rattle.problem.proofs.Choices.{apart}
@@ -62,10 +62,6 @@ record Split (t : Terms) (X X1 : ℤ) (a r : ℕ) (p : ℤ) : Type 0 where
   pub at_far : r ≢ 0 → worth t X1 ≡ some far
   pub splits : p ≡ (pos a *ℤ near) +ℤ (pos r *ℤ far)
 
--- two sums added the other way round
-sums_swap : (u v w x : ℤ) → (u +ℤ v) +ℤ (w +ℤ x) ≡ (u +ℤ w) +ℤ (v +ℤ x)
-sums_swap u v w x = omega (arith, ints)
-
 module _ (d a r : ℕ) (e : a + r ≡ d) (ha : 1 ≤ a) (z X X1 : ℤ) (less : Less d z X r) (under : OneLess X1 X) where
   -- whole units in order, where their d-ths are but for less than a unit
   units_le : (x y k : ℕ) → k < d → d * x ≤ d * y + k → x ≤ y
@@ -100,7 +96,7 @@ module _ (d a r : ℕ) (e : a + r ≡ d) (ha : 1 ≤ a) (z X X1 : ℤ) (less : L
       ap₂ ◌+ℤ◌
       (ap (λ (y : ℤ). s *ℤ y) z_splits ∙ times_plus s (pos a *ℤ X) (pos r *ℤ X1) ∙ ap₂ ◌+ℤ◌ (times_swap s a X) (times_swap s r X1))
       (d_splits b)
-      ∙ sums_swap (pos a *ℤ (s *ℤ X)) (pos r *ℤ (s *ℤ X1)) (pos a *ℤ b) (pos r *ℤ b)
+      ∙ omega (arith, ints)
       ∙ sym (ap₂ ◌+ℤ◌ (times_plus (pos a) (s *ℤ X) b) (times_plus (pos r) (s *ℤ X1) b))
 
   between : (t : Terms) (p : ℤ) → worth (terms_in d t) z ≡ some p → Split t X X1 a r p
@@ -108,7 +104,7 @@ module _ (d a r : ℕ) (e : a + r ≡ d) (ha : 1 ≤ a) (z X X1 : ℤ) (less : L
   between (Terms.point units price) p = go (eq_z z (pos d *ℤ units)) refl
     where
       go : (b : Bool) → eq_z z (pos d *ℤ units) ≡ b → cond b (some (pos d *ℤ price)) none ≡ some p → Split (Terms.point units price) X X1 a r p
-      go false t q = absurd (no_price q)
+      go false t q = cc
       go true t q =
           let s : z ≡ pos d *ℤ units = eq_z_true z (pos d *ℤ units) t in
           let lo : (pos d *ℤ units) ≤ℤ z = omega (arith, ints) in
@@ -125,7 +121,7 @@ module _ (d a r : ℕ) (e : a + r ≡ d) (ha : 1 ≤ a) (z X X1 : ℤ) (less : L
     where
       go : (b : Bool) → within (pos d *ℤ low) (pos d *ℤ high) z ≡ b → cond b (some ((slope *ℤ z) +ℤ (pos d *ℤ base))) none ≡ some p
           → Split (Terms.span low high slope base) X X1 a r p
-      go false t q = absurd (no_price q)
+      go false t q = cc
       go true t q =
           let i = within_true (pos d *ℤ low) (pos d *ℤ high) z t in
           record {

@@ -14,17 +14,13 @@ use Rattle.numbers.proofs.Tests.{within_true}
 use Rattle.numbers.proofs.Times.{abs_between, times_between}
 use Rattle.problem.specs.Problem.{Terms, Offer, worth}
 use Rattle.problem.proofs.Prices.{Low, Limited, limited_low, Priced, worths_map}
-use Rattle.problem.proofs.Values.{le_trans}
-
-plus_le : (u v b : ℤ) → u ≤ℤ v → (u +ℤ b) ≤ℤ (v +ℤ b)
-plus_le u v b h = omega (arith, ints)
 
 -- where the prices at both ends are from -B to B, so are those between
 pub span_between : (B : ℕ) (low high slope base x : ℤ) → low ≤ℤ x → x ≤ℤ high
     → Limited B (some ((slope *ℤ low) +ℤ base)) → Limited B (some ((slope *ℤ high) +ℤ base)) → Limited B (some ((slope *ℤ x) +ℤ base))
 span_between B low high slope base x a b =
     times_between slope low x high a b (λ z. Limited B (some (z +ℤ base)))
-    (λ u v w h k p q. (le_trans p.0 (plus_le u v base h), le_trans (plus_le v w base k) q.1))
+    (λ u v w h k p q. (omega (arith, ints), omega (arith, ints)))
 
 pub point_limited : (B : ℕ) (units price : ℤ) → Limited B (some price) → (x : ℤ) → Limited B (worth (Terms.point units price) x)
 unfolding worth
