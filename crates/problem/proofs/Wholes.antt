@@ -110,11 +110,7 @@ module _ (d : ℕ) (from-1 : 1 ≤ d) where
   unfolding higher times
   higher_times none v = refl
   higher_times (some p) none = refl
-  higher_times (some p) (some q) = rw (le_z_times q p) (go (le_z q p))
-    where
-      go : (b : Bool) → some (cond b (pos d *ℤ p) (pos d *ℤ q)) ≡ some (pos d *ℤ cond b p q)
-      go true = refl
-      go false = refl
+  higher_times (some p) (some q) = grind (arith, le_z_times q p)
 
   value_times : (os : List Offer) (j : ℕ) (x : ℤ) → value (map (offer_in d) os) j (pos d *ℤ x) ≡ times d (value os j x)
   unfolding value times
