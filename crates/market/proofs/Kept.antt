@@ -1,16 +1,18 @@
--- The links as they are kept: what is left from a line on. Assumes nothing.
+-- The links as they are kept: the neighbours, line by line, and the capacity of a line. Assumes nothing.
 use mathlib.Core.Path.{◌≡◌, refl, sym, ap, ◌∙◌, subst}
 use mathlib.Core.Bool.{Bool, true, false, cond}
 use mathlib.Core.List.{List, [], ◌∷◌}
 use Prim.Native.Nat.{ℕ, suc, ◌+◌, ◌-◌, ◌≤◌, ◌<◌}
 use native.Mathlib.Omega.{arith}
-use lib.IntN.{nat_abs}
+use lib.IntN.{pos, nat_abs}
+use Rattle.std.specs.Prelude.{find, Some, MatchOption}
+use Rattle.numbers.specs.inner.Held.{units}
 use lib.ListN.{length, get_or, drop, replicate, get_or-replicate}
 use Rattle.std.proofs.Math.Seq.{drop-cons}
 use Rattle.std.proofs.lemmas.List.{drop_all}
 use native.Mathlib.Numerals.{add-one}
 use Rattle.network.specs.declared.bits.Members.{Members}
-use Rattle.problem.specs.Problem.{Link, joins}
+use Rattle.problem.specs.Problem.{joins}
 use Rattle.network.specs.inner.Walks.{add_masks, Masks}
 use Rattle.network.proofs.Near.{Near, near_none, near_link, near_done}
 use Rattle.market.specs.declared.line.Line.{Line}
@@ -53,17 +55,18 @@ nearing_more s adj next i x l e long m N =
 pub nearing_all : (s : List Line) (adj : List Members) (i : ℕ) → length s ≤ i → Nearing s adj i → Masks adj (kept s)
 nearing_all s adj i l N = near_done (kept s) adj (subst (Near (kept s) adj) (kept_end s i l) N.near)
 
--- ---- the capacity between u and v; b says whether line i, x, is between them
-
-pub capacity_next : (s : List Line) (u v i : ℕ) (x : Line) (b : Bool) → i < length s → x ≡ get_or s i x → b ≡ joins (link_in x) u v
-    → capacity_of (kept (drop i s)) u v ≡ cond b (nat_abs x.capacity.0) (capacity_of (kept (drop (i + 1) s)) u v)
+-- ---- the capacity between u and v is that of the first line between them
+pub capacity_found : (s : List Line) (u v : ℕ) → MatchOption (find (λ x. joins (link_in x) u v) s) (units (pos 0) ≡ units (pos (capacity_of (kept s) u v)))
+    (λ x. x.capacity ≡ units (pos (capacity_of (kept s) u v)))
 unfolding capacity_of
-capacity_next s u v i x b l e t =
-    ap (λ (ls : List Link). capacity_of ls u v) (kept_rest s i x l e) ∙ ap (λ (y : Bool). cond y (nat_abs x.capacity.0) (capacity_of (kept (drop (i + 1) s)) u v)) (sym t)
-
-pub capacity_none : (s : List Line) (u v i : ℕ) → length s ≤ i → capacity_of (kept (drop i s)) u v ≡ 0
-unfolding capacity_of
-capacity_none s u v i l = ap (λ (ls : List Link). capacity_of ls u v) (kept_end s i l)
+capacity_found [] u v = refl
+capacity_found (x ∷ s) u v = go (joins (link_in x) u v) (capacity_found s u v)
+  where
+    go : (b : Bool) → MatchOption (find (λ y. joins (link_in y) u v) s) (units (pos 0) ≡ units (pos (capacity_of (kept s) u v))) (λ y. y.capacity ≡ units (pos (capacity_of (kept s) u v)))
+        → MatchOption (cond b (Some x) (find (λ y. joins (link_in y) u v) s)) (units (pos 0) ≡ units (pos (cond b (nat_abs x.capacity.0) (capacity_of (kept s) u v))))
+        (λ y. y.capacity ≡ units (pos (cond b (nat_abs x.capacity.0) (capacity_of (kept s) u v))))
+    go true ih = ap units x.counted
+    go false ih = ih
 
 pub capacity_low : (s : List Line) (u v : ℕ) → capacity_of (kept s) u v ≤ 40
 unfolding capacity_of

@@ -1,9 +1,10 @@
 // A file's links as they are kept, in the file's order: each is read once.
-ghost use Rattle.std.specs.Prelude.{◌≡◌, pos};
+ghost use Rattle.std.specs.Prelude.{◌≡◌, pos, find};
 ghost use Rattle.numbers.specs.inner.Held.{units};
+ghost use Rattle.problem.specs.Problem.{joins};
 ghost use Rattle.network.specs.inner.Walks.{Masks};
 ghost use Rattle.market.specs.inner.Feeders.{capacity_of};
-ghost use Rattle.market.specs.inner.Lines.{kept};
+ghost use Rattle.market.specs.inner.Lines.{link_in, kept};
 
 use crate::line::Line;
 use network::bits::Members;
@@ -21,14 +22,19 @@ pub fn neighbours(links: &[Line]) -> [Members; 32]
     adj
 }
 
-// The capacity of the link between u and v, or 0 where there is none.
+// The link between u and v, if there is one.
+fn between(links: &[Line], u: Member, v: Member) -> Option<Line>
+    ensures { result ≡ find (λ x. joins (link_in x) u.0 v.0) links.now }
+{
+    links.iter().copied().find(|x| x.joins(u, v))
+}
+
+// Its capacity, or 0 where there is none.
 pub fn capacity(links: &[Line], u: Member, v: Member) -> Units
     ensures { result ≡ units (pos (capacity_of (kept links.now) u.0 v.0)) }
 {
-    for x in links {
-        if x.joins(u, v) {
-            return x.capacity;
-        }
+    match between(links, u, v) {
+        Some(x) => x.capacity,
+        None => Units(0),
     }
-    Units(0)
 }

@@ -1,16 +1,11 @@
--- `capacity` meets its contract, one line a turn. Assumes nothing.
-use mathlib.Core.Path.{sym, ap, ◌∙◌}
-use Rattle.std.proofs.Common.{ℕ, pos}
-use Rattle.numbers.specs.inner.Held.{units}
-use Rattle.market.proofs.Kept.{capacity_next, capacity_none}
+-- `capacity` meets its contract. Assumes nothing.
+use mathlib.Core.Path.{sym, ◌∙◌}
+use Rattle.std.proofs.lemmas.Option.{MatchOption-at_some, MatchOption-at_none}
+use Rattle.market.proofs.Kept.{capacity_found}
 use Rattle.market.proofs.links.capacity.Goals as goal
 
-pub returns-then-joins : goal.returns-then-joins
-returns-then-joins c =
-    ap units (c.x-item.result.counted ∙ ap pos (sym (c.loop-x.invariant ∙ capacity_next _ _ _ _ c.x-item.result _ c.loop-x-test.true c.x-item.is (sym c.if-joins.true ∙ c.joins.ensures))))
+pub returns-in-Some : goal.returns-in-Some
+returns-in-Some c = MatchOption-at_some _ _ _ (sym c.between.ensures ∙ c.in-Some.is) (capacity_found c.args.links.now c.args.u.0 c.args.v.0)
 
-pub loop-x-preserved : goal.loop-x-preserved
-loop-x-preserved c = c.loop-x.invariant ∙ capacity_next _ _ _ _ c.x-item.result _ c.loop-x-test.true c.x-item.is (sym c.if-joins.false ∙ c.joins.ensures)
-
-pub returns : goal.returns
-returns c = ap (λ (n : ℕ). units (pos n)) (sym (c.loop-x.invariant ∙ capacity_none _ _ _ _ c.loop-x-test.false))
+pub returns-in-None : goal.returns-in-None
+returns-in-None c = MatchOption-at_none _ _ (sym c.between.ensures ∙ c.in-None.is) (capacity_found c.args.links.now c.args.u.0 c.args.v.0)
