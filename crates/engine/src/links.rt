@@ -4,6 +4,7 @@ ghost use Rattle.problem.proofs.Reach.{reach};
 ghost use Rattle.network.specs.inner.Feeders.{toward_at, away_at};
 ghost use Rattle.engine.specs.inner.Words.{walk_of, top_of};
 
+use crate::stores::ROW;
 use network::Feeder;
 use numbers::Units;
 
@@ -34,7 +35,7 @@ pub fn top(feeder: &Feeder, v: usize) -> Units
 #[tactic(auto, using(crate::proofs::Shape::row_first, crate::proofs::Shape::row_kid, crate::proofs::Shape::row_not, crate::proofs::Shape::width_few, crate::proofs::Shape::width_near))]
 pub fn row_len(feeder: &Feeder, v: usize) -> usize
     requires { v < feeder.now.members }
-    ensures few { result ≤ 2481 }
+    ensures few { result ≤ ROW }
     ensures joined { (own : ℕ → ℕ → ℕ) → result ≡ 1 + reach (walk_of feeder.now own) feeder.now.members v }
 {
     let mut len = 1 + width(feeder, v);

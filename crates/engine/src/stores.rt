@@ -2,12 +2,14 @@
 ghost use Rattle.std.specs.Prelude.{◌≡◌, ◌≤◌, ◌<◌, ◌+◌, ◌-◌, ◌*◌, ◌^◌, ℕ, length, get_or};
 ghost use Rattle.engine.specs.inner.Words.{slot_of, Taken};
 
-// The most cells that a row has, that a message has, and the places of the choices of 32 positions.
-pub const ROW: usize = 2481;
+// The most cells that a row has, with 31 links of at most 80 units both ways.
+pub const ROW: usize = 31 * 80 + 1;
 
-pub const MESSAGE: usize = 81;
+// The most cells that a message has.
+pub const MESSAGE: usize = 80 + 1;
 
-pub const CHOICES: usize = 37231;
+// The places of the choices of 32 positions: where those of position 32 would begin.
+pub const CHOICES: usize = 31 * (40 * 31 + 1) - 40 * 31;
 
 // Cells are numbers with 0 for none: an option of a number would take twice the room.
 #[derive(Drop)]
@@ -54,7 +56,7 @@ pub fn take_in(
 
 // A row put in the store as a message.
 pub fn put_message(row: &[u32], message: &mut [u32; MESSAGE])
-    requires { length row.now ≤ 81 }
+    requires { length row.now ≤ MESSAGE }
     ensures { (x : ℕ) → x < length row.now → get_or message.new x 0 ≡ get_or row.now x 0 }
 {
     message[..row.len()].copy_from_slice(row);
