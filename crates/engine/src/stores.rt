@@ -39,7 +39,8 @@ pub fn slot(i: usize) -> usize
     u * (40 * u + 1) - 40 * u
 }
 
-// The message of position i, of w + 1 cells, taken into a row, with the choice that each cell was made by.
+// The message of position i, of w + 1 cells, taken into a row, with the choice that each cell was made by. The message is
+// lent whole, with w beside it: of a part lent in `member`, how long it was is not known past the call (tried).
 pub fn take_in(
     row: &mut [u32],
     message: &[u32; MESSAGE],
