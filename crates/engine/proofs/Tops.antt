@@ -1,7 +1,6 @@
 -- The most units that a member can buy, added up position by position. Assumes nothing.
 use mathlib.Core.Path.{◌≡◌, refl, sym, ◌∙◌}
-use mathlib.Core.Bool.{Bool, true, false}
-use Prim.Native.Nat.{ℕ, zero, suc, ◌+◌, ◌-◌, ◌*◌, ◌≤◌}
+use Prim.Native.Nat.{ℕ, zero, suc, ◌+◌, ◌-◌, ◌≤◌}
 use native.Mathlib.Nat.{add-zero}
 use native.Mathlib.Numerals.{add-one}
 use native.Mathlib.Omega.{arith}
@@ -46,18 +45,8 @@ module _ (f : Feeder) (v : ℕ) where
   top_not zero h o = absurd (omega arith)
   top_not (suc i) h o = rw (add-one (suc i), top_next i, ne_eqb v (parent_at f (suc i)) (λ e. o (sym e))) (add-zero _)
 
-  top_most : (i : ℕ) → 1 ≤ i → top_to f v i ≤ 40 * i
-  top_most zero h = absurd (omega arith)
-  top_most (suc zero) h = omega (arith, top_start, (s.away v).1)
-  top_most (suc (suc i)) h = omega (arith, top_next i, one (eqb v (parent_at f (suc i))), top_most (suc i) (omega arith))
-    where
-      one : (t : Bool) → pick t (toward_at f (suc i)) 0 ≤ 40
-      one true = (s.toward (suc i)).1
-      one false = omega arith
-
-  -- the sum so far is small
-  pub top_few : (i : ℕ) → 1 ≤ i → i ≤ f.members → top_to f v i ≤ 1280
-  top_few i h l = omega (arith, top_most i h, s.few)
+  pub link_few : (i : ℕ) → (toward_at f i ≤ 40) × (away_at f i ≤ 40)
+  link_few i = ((s.toward i).1, (s.away i).1)
 
   pub top_end : (i : ℕ) → 1 ≤ i → i ≡ f.members → top_to f v i ≡ top_of f v
   unfolding top_to top_of

@@ -17,7 +17,7 @@ pub fn width(feeder: &Feeder, i: usize) -> u16
 }
 
 // The most units that the member at v can buy.
-#[tactic(auto, using(crate::proofs::Tops::top_start, crate::proofs::Tops::top_kid, crate::proofs::Tops::top_not, crate::proofs::Tops::top_few, crate::proofs::Tops::top_end))]
+#[tactic(auto, using(crate::proofs::Tops::top_start, crate::proofs::Tops::top_kid, crate::proofs::Tops::top_not, crate::proofs::Tops::link_few, crate::proofs::Tops::top_end))]
 pub fn top(feeder: &Feeder, v: usize) -> Units
     requires { v < feeder.now.members }
     ensures { result.0 ≡ pos (top_of feeder.now v) }
