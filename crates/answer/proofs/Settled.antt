@@ -8,7 +8,8 @@ use native.Mathlib.Omega.{arith}
 use lib.Dec.{eqb, ltb}
 use lib.ListN.{length, get_or}
 use lib.IntN.{ℤ, nat_abs, neg_ℤ-neg_ℤ}
-use borrow.Author.Tests.{eq-eqb, ltb-true, ltb-false, le-ltb}
+use borrow.Author.Tests.{eq-eqb, eqb-true, eqb-false, ltb-true, ltb-false, le-ltb}
+use Rattle.std.specs.Prelude.{Some, None}
 use Rattle.engine.specs.inner.Words.{net_in, sent_in}
 use Rattle.engine.specs.declared.Trade.{Trade}
 use Rattle.numbers.proofs.Tests.{and_both}
@@ -16,7 +17,7 @@ use Rattle.problem.specs.Problem.{Link, Market, InRange, value, load}
 use Rattle.problem.specs.Problem.InRange.{end, flow}
 use Rattle.problem.specs.Problem as P
 use Rattle.problem.proofs.Tree.{Tree}
-use Rattle.problem.proofs.Count.{same?, either}
+use Rattle.problem.proofs.Count.{either}
 use Rattle.problem.proofs.Max.{pick}
 use Rattle.problem.proofs.Links.{Ends}
 use Rattle.problem.proofs.Places.{from_first}
@@ -32,7 +33,7 @@ use Rattle.records.specs.Answer.{or_zero, each, member_bytes, member_record, lin
 use Rattle.records.proofs.Written.{member_8, each_same, each_8, links_length, ends_other}
 use Rattle.answer.specs.declared.allocation.Allocation.{Allocation}
 use Rattle.answer.specs.inner.Words.{Settles, Fitting}
-use Rattle.answer.specs.inner.Records.{place_of, joint_of, from_lower, joint_bytes, link_by, links_by, member_by, members_by}
+use Rattle.answer.specs.inner.Records.{place_of, parent_of, joint_of, from_lower, joint_bytes, link_by, links_by, member_by, members_by}
 use Rattle.answer.proofs.Sizes.{size_from_lower}
 
 -- ---- a member's record
@@ -248,21 +249,15 @@ module _ {m : Market} {ys : List ℤ} {records : List ℕ} (x : Allocation) (S :
   -- the record of two members' link
   link_right : (a b : ℕ) → 1 ≤ a → a ≤ m.members → 1 ≤ b → b ≤ m.members → link_by x a b ≡ between m.links ys a b
   unfolding link_by joint_of joint_bytes
-  link_right a b pa qa pb qb = sym (go (either (ltb a b)) (same? (parent_at f (place_of x b)) (place_of x a)) (same? (parent_at f (place_of x a)) (place_of x b)))
+  link_right a b pa qa pb qb = sym (go (ltb a b) refl (eqb (parent_of x b) (place_of x a)) refl (eqb (parent_of x a) (place_of x b)) refl)
     where
-      go : (ltb a b ≡ true) ⊎ (ltb a b ≡ false)
-          → ((parent_at f (place_of x b) ≡ place_of x a) × (eqb (parent_at f (place_of x b)) (place_of x a) ≡ true)) ⊎ ((parent_at f (place_of x b) ≡ place_of x a → ⊥) × (eqb (parent_at f (place_of x b)) (place_of x a) ≡ false))
-          → ((parent_at f (place_of x a) ≡ place_of x b) × (eqb (parent_at f (place_of x a)) (place_of x b) ≡ true)) ⊎ ((parent_at f (place_of x a) ≡ place_of x b → ⊥) × (eqb (parent_at f (place_of x a)) (place_of x b) ≡ false))
-          → between m.links ys a b ≡ joint_bytes x a b (joint_of x a b)
-      go (inr t) u v =
-          rw t (between_none m.links ys a b (λ e l p q. omega (arith, (within_at m.members m.links T.within e l).1, ltb-false a b t)))
-      go (inl t) (inl u) v =
-          let l = ltb-true a b t in
-          rw (t, u.1) (over_between b a pb qb pa qa (λ e. omega arith) u.0 false (le-ltb b a (omega arith)))
-      go (inl t) (inr u) (inl v) =
-          let l = ltb-true a b t in
-          rw (t, u.1, v.1) (over_between a b pa qa pb qb (λ e. omega arith) v.0 true t)
-      go (inl t) (inr u) (inr v) = rw (t, u.1, v.1) (between_none m.links ys a b (unlinked a b u.0 v.0))
+      go : (t : Bool) → ltb a b ≡ t → (u : Bool) → eqb (parent_of x b) (place_of x a) ≡ u → (v : Bool) → eqb (parent_of x a) (place_of x b) ≡ v
+          → between m.links ys a b ≡ joint_bytes x a b (cond t
+          (cond u (Some (record { reached = place_of x b; lower = false })) (cond v (Some (record { reached = place_of x a; lower = true })) None)) None)
+      go false t u _ v _ = between_none m.links ys a b (λ e l p q. omega (arith, (within_at m.members m.links T.within e l).1, ltb-false a b t))
+      go true t true u v _ = let l = ltb-true a b t in over_between b a pb qb pa qa (λ e. omega arith) (eqb-true _ _ u) false (le-ltb b a (omega arith))
+      go true t false u true v = let l = ltb-true a b t in over_between a b pa qa pb qb (λ e. omega arith) (eqb-true _ _ v) true t
+      go true t false u false v = between_none m.links ys a b (unlinked a b (eqb-false _ _ u) (eqb-false _ _ v))
 
   links_same : links_by x ≡ each m.members (λ a. each m.members (between m.links ys a))
   links_same =

@@ -15,6 +15,17 @@ pub struct Joint {
     pub lower: bool,
 }
 
+impl Joint {
+    // What flows from the lower member to the higher one, where one of them sends so much toward member 1.
+    #[tactic(auto, unfolding(crate::specs::inner::Records::from_lower))]
+    fn from_lower(self, sent: Units) -> Units
+        requires { nat_abs sent.0 ≤ 40 }
+        ensures { result.0 ≡ from_lower self.lower sent.0 }
+    {
+        if self.lower { sent } else { Units(0) - sent }
+    }
+}
+
 impl Allocation<'_> {
     // The link from a to b.
     #[tactic(auto, unfolding(crate::specs::inner::Records::joint_of))]
@@ -56,7 +67,7 @@ impl Allocation<'_> {
                 continue;
             };
             let capacity = self.feeder.position[joint.reached].toward;
-            let flow = from_lower(joint.lower, self.trades[joint.reached].sent);
+            let flow = joint.from_lower(self.trades[joint.reached].sent);
             let load = bytes::load_of(capacity, flow);
             out[at..at + 8].copy_from_slice(&bytes::link(a, b, flow, load));
             at += 8;
@@ -74,13 +85,4 @@ impl Allocation<'_> {
             at += self.write_links_of(Member::at(i), &mut out[at..]);
         }
     }
-}
-
-// What flows from a link's lower member to its higher one, where one of them sends so much toward member 1.
-#[tactic(auto, unfolding(crate::specs::inner::Records::from_lower))]
-fn from_lower(lower: bool, sent: Units) -> Units
-    requires { nat_abs sent.0 ≤ 40 }
-    ensures { result.0 ≡ from_lower lower sent.0 }
-{
-    if lower { sent } else { Units(0) - sent }
 }
