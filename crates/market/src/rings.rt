@@ -39,6 +39,7 @@ pub fn links(file: &[u8]) -> Result<ArrayVec<Line, 31>, Refusal>
     ensures { Finds (λ s. (first_record closes 0 [] (entries file.now) ≡ none) × (kept s.items ≡ links_of (entries file.now))) (from9 file.now) (from10 file.now) result }
 {
     let mut links = ArrayVec::new();
+    // as many parts as links; an array all the same, for `merged` promises of what stands past them that it stays
     let mut parts = [Members(0); 31];
     'records: for i in 0..file.len() / 8 {
         let Some(line) = line_at(file, i) else {

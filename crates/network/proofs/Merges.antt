@@ -2,16 +2,13 @@
 use mathlib.Core.Path.{◌≡◌, refl, sym, ap, ap₂, ◌∙◌, subst}
 use mathlib.Core.Logic.{◌⊎◌, inl, inr, ⊎_elim}
 use Rattle.std.proofs.Math.Nat.{eq-or-lt_of_le}
-use mathlib.Core.Bool.{true, false, cond, ◌&&◌}
+use mathlib.Core.Bool.{true, false, ◌&&◌}
 use mathlib.Core.List.{List, [], ◌∷◌}
 use Prim.Native.Nat.{ℕ, zero, suc, ◌+◌, ◌^◌, ◌≤◌, ◌<◌}
 use native.Mathlib.Nat.{le_refl, not-suc-le-zero}
-use native.Mathlib.Numerals.{add-one}
 use native.Mathlib.Omega.{arith}
 use lib.Dec.{eqb}
-use lib.Bits.{bit_or}
-use lib.ListN.{length, get_or}
-use borrow.Author.Count.{below_more}
+use lib.ListN.{length}
 use Rattle.std.proofs.lemmas.Bool.{true≢false, or_left, or_right}
 use Rattle.problem.specs.Problem.{Link, neighbours}
 use Rattle.problem.proofs.Tree.{Joined, Open, Within}
@@ -185,20 +182,3 @@ module _ (ls : List Link) (l : Link) (a b : ℕ) (low : l.a ≡ suc a) (high : l
       covered u v d q (inr n) =
           let c = K.cover u v d (far_same ls l (suc u) (suc v) n q) in
           (c.0, omega (arith, c.1), stays c.0 c.1 u c.2)
-
--- ---- a search through the sets: m is what those below e gather of the ends, and none of them holds both
-pub record Searched (ms : List ℕ) (a b m e : ℕ) : Type 0 where
-  pub gathers : m ≡ gather (λ i. get_or ms i 0) a b e
-  pub clear : (i : ℕ) → i < e → (holds (get_or ms i 0) a && holds (get_or ms i 0) b) ≡ false
-
-pub searched_none : (ms : List ℕ) (a b x y m : ℕ) → x ≡ 2 ^ a → y ≡ 2 ^ b → m ≡ bit_or x y → Searched ms a b m 0
-unfolding gather
-searched_none ms a b x y m p q e = record { gathers = e ∙ ap₂ bit_or p q; clear = λ i l. absurd (not-suc-le-zero l) }
-
-pub searched_more : (ms : List ℕ) (a b m m' e : ℕ) → (holds (get_or ms e 0) a && holds (get_or ms e 0) b) ≡ false
-    → m' ≡ cond (touches (get_or ms e 0) a b) (bit_or m (get_or ms e 0)) m → Searched ms a b m e → Searched ms a b m' (e + 1)
-unfolding gather
-searched_more ms a b m m' e f q S = record {
-  gathers = q ∙ ap (λ (x : ℕ). cond (touches (get_or ms e 0) a b) (bit_or x (get_or ms e 0)) x) S.gathers ∙ ap (gather (λ i. get_or ms i 0) a b) (sym (add-one e));
-  clear = below_more _ e S.clear f;
-}
