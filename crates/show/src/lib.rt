@@ -1,6 +1,10 @@
 // A market's answer, or its refusal, as lines on a page.
 #![tactic(auto)]
 
+ghost use Rattle.std.specs.Prelude.{[], ◌∷◌, pos, codes, IfErr};
+ghost use Rattle.print.specs.inner.Page.{Put, line_of};
+ghost use Rattle.records.specs.inner.Cases.{number_of};
+
 use print::Page;
 use records::{Kind, Refusal};
 
@@ -31,8 +35,11 @@ fn line<const N: usize>(page: &mut Page<N>, record: &[u8]) {
     }
 }
 
-// Clears the market of a file, and puts its lines on the page.
-pub fn lines<const N: usize>(file: &[u8], page: &mut Page<N>) -> Result<(), Refusal> {
+// Clears the market of a file, and puts its lines on the page: those of the answer, or the refusal's.
+pub fn lines<const N: usize>(file: &[u8], page: &mut Page<N>) -> Result<(), Refusal>
+    ensures { IfErr result (λ r. Put page.old.bytes page.old.end
+        (line_of (codes "R") (pos (number_of r.rule) ∷ pos r.place ∷ [])) page.new.bytes page.new.end) }
+{
     let mut answer = [0u8; 512];
     let cleared = clearing::clear(file, &mut answer);
     match cleared {
