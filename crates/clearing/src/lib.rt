@@ -18,8 +18,7 @@ fn allocate(records: &[u8], feeder: &Feeder, answer: &mut [u8]) -> Result<usize,
     ensures outcome { (m : Market) → Held m feeder.now records.now → Outcome m answer.old (returned result) answer.new }
     ensures size { IfOk result (λ n. n ≤ 512) }
 {
-    let solved = engine::solve(feeder, records);
-    let Some(solution) = solved else {
+    let Some(solution) = engine::solve(feeder, records) else {
         return Err(Refusal {
             rule: Rule::Impossible,
             place: 0,

@@ -3,7 +3,7 @@ use Rattle.clearing.proofs.Solved.{best_small, nothing_left, settles, cleared_le
 use Rattle.clearing.proofs.allocate.Goals as goal
 
 pub returns-in_default-clause-outcome : goal.returns-in_default-clause-outcome
-returns-in_default-clause-outcome c m H = nothing_left H c.solve-solved.result c.solve-solved.ensures.none c.in_default.not-Some c.args.answer.now
+returns-in_default-clause-outcome c m H = nothing_left H c.solve.result c.solve.ensures.none c.in_default.not-Some c.args.answer.now
 
 pub total_of-total-requires : goal.total_of-total-requires
 total_of-total-requires c = let S = c.in-Some.ensures.some in (S.some, best_small c.requires.held.1 S)
