@@ -22,7 +22,7 @@ use Rattle.problem.proofs.Tree.{Within}
 use Rattle.problem.proofs.Count.{lowest_is, lowest_hit}
 use Rattle.std.proofs.lemmas.Bool.{and_parts}
 use Rattle.problem.proofs.Links.{neighbours_in}
-use Rattle.problem.proofs.Steps.{Hop, Walked, at_pos, at_before, at_latest, at_in, walk_room, reached, free, on_from, hops, walk_walked, Finished, not_some, on_fresh}
+use Rattle.problem.proofs.Steps.{Hop, Walked, at_pos, at_before, at_latest, at_in, walk_room, reached, free, on_from, hops, walk_walked, Finished, on_fresh}
 use Rattle.problem.proofs.Places.{from_before, from_latest}
 use Rattle.problem.proofs.Branch.{walk_more, walk_stays}
 
@@ -82,7 +82,7 @@ on_miss adj steps mask k e = grind arith
 
 pub on_lt : (adj : List Members) (steps : List Step) (mask k : ℕ) (s : Hop) → on_mask adj steps mask k ≡ some s → (1 ≤ s.at) × (s.at ≤ 32) × (s.from < k)
 unfolding on_mask
-on_lt adj steps mask zero s e = absurd (not_some e)
+on_lt adj steps mask zero s e = cc
 on_lt adj steps mask (suc k) s e =
     let m : ℕ = free_mask (set_in adj (walked_at steps k - 1)) mask in
     grind (arith, on_lt adj steps mask k s, trailing_inside m (lt_of_le_of_lt (and_le_r (set_in adj (walked_at steps k - 1)) ((2 ^ 32 - 1) - mask)) (ones_sub-lt 32 mask)))

@@ -17,7 +17,7 @@ use Rattle.numbers.proofs.Tests.{eq_z_true, eq_z_same, within_true, true_within}
 use Rattle.numbers.proofs.Times.{times_plus, times_swap, plus_times}
 use Rattle.problem.specs.Problem.{Terms, Offer, worth, value}
 use Rattle.problem.specs.Fractions.{terms_in, offer_in}
-use Rattle.problem.proofs.Values.{some_same, Tops, value_given, value_highest}
+use Rattle.problem.proofs.Values.{Tops, value_given, value_highest}
 use Rattle.problem.proofs.Prices.{cell_of, Priced}
 use Rattle.problem.proofs.Spans.{limit_of, limit, priced_limit}
 use Rattle.problem.proofs.Choices.{apart}
@@ -115,7 +115,7 @@ module _ (d a r : ℕ) (e : a + r ≡ d) (ha : 1 ≤ a) (z X X1 : ℤ) (less : L
             far = price;
             at_near = ap (λ (b : Bool). cond b (some price) none) (eq_z_same X units x);
             at_far = λ n. absurd (omega (arith, ints, far_low units lo n, near_high units hi));
-            splits = sym (some_same q) ∙ d_splits price;
+            splits = let e = d_splits price in cc;
           }
   between (Terms.span low high slope base) p = go (within (pos d *ℤ low) (pos d *ℤ high) z) refl
     where
@@ -129,7 +129,7 @@ module _ (d a r : ℕ) (e : a + r ≡ d) (ha : 1 ≤ a) (z X X1 : ℤ) (less : L
             far = (slope *ℤ X1) +ℤ base;
             at_near = ap (λ (b : Bool). cond b (some ((slope *ℤ X) +ℤ base)) none) (true_within low high X (near_low low i.0) (near_high high i.1));
             at_far = λ n. ap (λ (b : Bool). cond b (some ((slope *ℤ X1) +ℤ base)) none) (true_within low high X1 (far_low low i.0 n) (far_high high i.1));
-            splits = sym (some_same q) ∙ line_splits slope base;
+            splits = let e = line_splits slope base in cc;
           }
 
 -- ---- a table's cell
