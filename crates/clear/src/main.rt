@@ -27,9 +27,11 @@ enum Outcome {
 fn clear<R: Read, W: Write>(input: &mut R, output: &mut W) -> Result<Outcome> {
     let mut file = [0u8; 33024];
     let n = streams::read(input, &mut file).context("cannot read the market")?;
-    let mut page = Page::at([0u8; 2048], 0);
+    let mut bytes = [0u8; 2048];
+    let mut page = Page::at(&mut bytes, 0);
     let cleared = show::lines(&file[..n], &mut page);
-    if !streams::write(output, &page.bytes, page.end).context("cannot write the answer")? {
+    let end = page.end;
+    if !streams::write(output, &bytes, end).context("cannot write the answer")? {
         bail!("cannot write the answer: it is longer than its page");
     }
     match cleared {

@@ -3,44 +3,41 @@
 // Not by `fmt::Write`: what a `write!` that fails leaves std does not say, and here every byte of a full page is promised too.
 #![tactic(auto)]
 
-ghost use Rattle.std.specs.Prelude.{◌≡◌, ◌≤◌, min};
+ghost use Rattle.std.specs.Prelude.{◌≡◌, ◌≤◌, min, length};
 ghost use Rattle.print.specs.inner.Page.{Put, PutNumber, line_of};
 
 use itoa::Buffer;
 
-// A page of N bytes, with text up to a place.
+// A page that is lent, with text up to a place.
 #[derive(Drop)]
-pub struct Page<const N: usize> {
-    pub bytes: [u8; N],
+pub struct Page<'a> {
+    pub bytes: &'a mut [u8],
     pub end: usize,
-    pub ghost within: { end ≤ N },
+    pub ghost within: { end ≤ length bytes.now },
 }
 
-impl<const N: usize> Page<N> {
+impl<'a> Page<'a> {
     // A page whose text goes on from a place: past the page's end, from that end.
-    pub fn at(bytes: [u8; N], place: usize) -> Page<N>
-        ensures bytes { result.bytes ≡ bytes.entry }
-        ensures end { result.end ≡ min place N }
+    pub fn at(bytes: &'a mut [u8], place: usize) -> Page<'a>
+        ensures bytes { result.bytes.now ≡ bytes.old }
+        ensures end { result.end ≡ min place (length bytes.old) }
     {
-        Page {
-            bytes,
-            end: place.min(N),
-        }
+        let end = place.min(bytes.len());
+        Page { bytes, end }
     }
 
     // Puts a text on the page.
     pub fn text(&mut self, s: &[u8])
-        ensures { Put self.old.bytes self.old.end s.now self.new.bytes self.new.end }
+        ensures { Put self.old.bytes.now self.old.end s.now self.new.bytes.now self.new.end }
     {
-        let n = s.len().min(N - self.end);
-        let page = &mut self.bytes[..];
-        page[self.end..self.end + n].copy_from_slice(&s[..n]);
+        let n = s.len().min(self.bytes.len() - self.end);
+        self.bytes[self.end..self.end + n].copy_from_slice(&s[..n]);
         self.end += n;
     }
 
     // Puts a number in decimal, with a minus sign where it is below 0 and no zero before its first digit.
     pub fn number(&mut self, n: i64)
-        ensures { PutNumber self.old.bytes self.old.end n self.new.bytes self.new.end }
+        ensures { PutNumber self.old.bytes.now self.old.end n self.new.bytes.now self.new.end }
     {
         let mut buffer = Buffer::new();
         self.text(buffer.format(n).as_bytes());
@@ -48,7 +45,7 @@ impl<const N: usize> Page<N> {
 
     // Puts a line: a word, then numbers with a blank before each.
     pub fn line(&mut self, word: &[u8], numbers: &[i64])
-        ensures { Put self.old.bytes self.old.end (line_of word.now numbers.now) self.new.bytes self.new.end }
+        ensures { Put self.old.bytes.now self.old.end (line_of word.now numbers.now) self.new.bytes.now self.new.end }
     {
         self.text(word);
         for &n in numbers {

@@ -15,7 +15,7 @@ const FLOW: u8 = Kind::Flow as u8;
 const TOTAL: u8 = Kind::Total as u8;
 
 // The line of a record of the answer: a member with its net and value, a link with its flow and load, or the total.
-fn line<const N: usize>(page: &mut Page<N>, record: &[u8]) {
+fn line(page: &mut Page, record: &[u8]) {
     match *record {
         [MEMBER, member, n0, n1, v0, v1, v2, v3] => {
             let net = i16::from_le_bytes([n0, n1]);
@@ -36,9 +36,9 @@ fn line<const N: usize>(page: &mut Page<N>, record: &[u8]) {
 }
 
 // Clears the market of a file, and puts its lines on the page: those of the answer, or the refusal's.
-pub fn lines<const N: usize>(file: &[u8], page: &mut Page<N>) -> Result<(), Refusal>
-    ensures { IfErr result (λ r. Put page.old.bytes page.old.end
-        (line_of (codes "R") (pos (number_of r.rule) ∷ pos r.place ∷ [])) page.new.bytes page.new.end) }
+pub fn lines(file: &[u8], page: &mut Page) -> Result<(), Refusal>
+    ensures { IfErr result (λ r. Put page.old.bytes.now page.old.end
+        (line_of (codes "R") (pos (number_of r.rule) ∷ pos r.place ∷ [])) page.new.bytes.now page.new.end) }
 {
     let mut answer = [0u8; 512];
     let cleared = clearing::clear(file, &mut answer);

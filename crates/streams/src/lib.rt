@@ -67,26 +67,39 @@ fn write_all<W: Write>(writer: &mut W, text: &[u8]) -> io::Result<()>
     Ok(())
 }
 
-// The bytes of a page of `each_file`.
-pub const PAGE: usize = 2112;
-
-// Writes a page for each file that an argument names: what `tell` makes of its name and its bytes. Ends with an error where a
-// file cannot be read or a page cannot be written.
-pub fn each_file<R, W, F>(rt: &R, output: &mut W, tell: F) -> io::Result<()>
+// Writes a page for each file that an argument names, in the bytes that are lent: what `tell` makes of the file's name and its
+// bytes, or of the words that say why they are not known. A page that cannot be written is passed over, and said to be.
+pub fn each_file<R, W, F>(rt: &R, output: &mut W, bytes: &mut [u8], tell: F) -> io::Result<()>
 where
     R: Env + Files + AllocGlobal,
     W: Write,
-    F: Fn(&mut Page<PAGE>, &str, &[u8]),
+    F: Fn(&mut Page, &str, Result<&[u8], &str>),
     requires { F.IsAlwaysCallable tell }
 {
     for path in env::args(rt)?.skip(1) {
         let mut file = [0u8; 33032];
-        let n = read(&mut File::open(rt, path.as_str())?, &mut file)?;
-        let mut page = Page::at([0; PAGE], 0);
-        tell(&mut page, path.as_str(), &file[..n]);
-        if !write(output, &page.bytes, page.end)? {
-            output.write_all(b"cannot be written\n")?;
+        let mut page = Page::at(bytes, 0);
+        let read = bytes_of(rt, path.as_str(), &mut file);
+        tell(&mut page, path.as_str(), read);
+        let end = page.end;
+        if !matches!(write(output, bytes, end), Ok(true)) {
+            let _ = output.write_all(b"cannot be written\n");
         }
     }
     Ok(())
+}
+
+// The bytes of a file, as many as there is room for, or the words that say why they are not known.
+fn bytes_of<'a>(
+    files: &impl Files,
+    path: &str,
+    room: &'a mut [u8],
+) -> Result<&'a [u8], &'static str> {
+    let Ok(mut file) = File::open(files, path) else {
+        return Err("cannot be opened");
+    };
+    match read(&mut file, room) {
+        Ok(n) => Ok(&room[..n]),
+        Err(_) => Err("cannot be read"),
+    }
 }

@@ -5,10 +5,9 @@ use network::Feeder;
 use numbers::Whole;
 use print::Page;
 use std::io;
-use streams::PAGE;
 
 // Member 1, and then each member as it was reached: from which member, and what their link carries.
-fn walk(page: &mut Page<PAGE>, feeder: &Feeder) {
+fn walk(page: &mut Page, feeder: &Feeder) {
     let members = feeder.members as usize;
     page.text(b" ");
     page.number(feeder.position[0].member.number());
@@ -24,14 +23,18 @@ fn walk(page: &mut Page<PAGE>, feeder: &Feeder) {
     page.text(b"\n");
 }
 
-fn tell(page: &mut Page<PAGE>, name: &str, file: &[u8]) {
+fn tell(page: &mut Page, name: &str, file: Result<&[u8], &str>) {
     page.text(name.as_bytes());
-    match market::market(file) {
-        Ok(feeder) => walk(page, &feeder),
-        Err(refusal) => page.line(b" R", &[refusal.rule.number().into(), refusal.place.into()]),
+    match file.map(market::market) {
+        Ok(Ok(feeder)) => walk(page, &feeder),
+        Ok(Err(refusal)) => page.line(b" R", &[refusal.rule.number().into(), refusal.place.into()]),
+        Err(why) => {
+            page.text(b" ");
+            page.line(why.as_bytes(), &[]);
+        }
     }
 }
 
 fn main(rt: HostRuntime) -> io::Result<()> {
-    streams::each_file(&rt, &mut rt.stdout(), tell)
+    streams::each_file(&rt, &mut rt.stdout(), &mut [0; 1024], tell)
 }

@@ -3,13 +3,17 @@
 
 use print::Page;
 use std::io;
-use streams::PAGE;
 
-fn tell(page: &mut Page<PAGE>, name: &str, file: &[u8]) {
+fn tell(page: &mut Page, name: &str, file: Result<&[u8], &str>) {
     page.line(name.as_bytes(), &[]);
-    let _ = show::lines(file, page);
+    match file {
+        Ok(file) => {
+            let _ = show::lines(file, page);
+        }
+        Err(why) => page.line(why.as_bytes(), &[]),
+    }
 }
 
 fn main(rt: HostRuntime) -> io::Result<()> {
-    streams::each_file(&rt, &mut rt.stdout(), tell)
+    streams::each_file(&rt, &mut rt.stdout(), &mut [0; 2112], tell)
 }

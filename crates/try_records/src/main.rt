@@ -4,10 +4,9 @@
 use numbers::Whole;
 use print::Page;
 use records::{Record, Rule, Terms};
-use std::io;
 use std::io::Write;
 
-fn line<const N: usize>(page: &mut Page<N>, record: Result<Record, Rule>) {
+fn line(page: &mut Page, record: Result<Record, Rule>) {
     match record {
         Ok(Record::Link(a, b, capacity)) => {
             page.line(b"link", &[a.number(), b.number(), capacity.number()]);
@@ -30,16 +29,25 @@ fn line<const N: usize>(page: &mut Page<N>, record: Result<Record, Rule>) {
     }
 }
 
-fn main(rt: HostRuntime) -> io::Result<()> {
+// Writes the records of a file, each on its line.
+fn write<W: Write>(output: &mut W, file: &[u8]) {
+    let mut bytes = [0u8; 4096];
+    let mut page = Page::at(&mut bytes, 0);
+    for i in 0..file.len() / 8 {
+        line(&mut page, records::read_at(file, i));
+    }
+    let end = page.end;
+    if !matches!(streams::write(output, &bytes, end), Ok(true)) {
+        let _ = output.write_all(b"cannot be written\n");
+    }
+}
+
+fn main(rt: HostRuntime) {
     let mut file = [0u8; 2048];
-    let n = streams::read(&mut rt.stdin(), &mut file)?;
-    let mut page = Page::at([0u8; 4096], 0);
-    for i in 0..n / 8 {
-        line(&mut page, records::read_at(&file, i));
+    match streams::read(&mut rt.stdin(), &mut file) {
+        Ok(n) => write(&mut rt.stdout(), &file[..n]),
+        Err(_) => {
+            let _ = println!(rt; "cannot be read");
+        }
     }
-    let mut output = rt.stdout();
-    if !streams::write(&mut output, &page.bytes, page.end)? {
-        output.write_all(b"cannot be written\n")?;
-    }
-    Ok(())
 }

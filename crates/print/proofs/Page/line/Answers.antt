@@ -7,7 +7,7 @@ use mir.Syntax.{w64}
 use Rattle.print.proofs.Page.line.Goals as goal
 
 pub loop-n-preserved : goal.loop-n-preserved
-loop-n-preserved g c =
+loop-n-preserved c =
     let numbers = c.args.numbers.now in
     let i = c.loop-n.n-index in
     let z : ℤ = get_or numbers i (pos 0) in
@@ -16,7 +16,7 @@ loop-n-preserved g c =
     rw (← line_more c.args.word.now numbers i c.loop-n-test.true) (rw read at put)
 
 pub returns : goal.returns
-returns g c =
+returns c =
     let put = put_then c.loop-n.invariant c.text-2.ensures in
     let all : take c.loop-n.n-index c.args.numbers.now ≡ c.args.numbers.now = search (rules, take_all) in
     rw all at put

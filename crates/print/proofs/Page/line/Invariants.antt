@@ -5,5 +5,5 @@ use Rattle.print.specs.inner.Page.{Put, blank_and}
 use Rattle.print.proofs.Page.line.Given as goal
 
 abbrev pub invariant-loop-n : goal.invariant-loop-n
-invariant-loop-n g l =
-    Put l.fn.self.bytes l.fn.self.end (l.word ++ flat_map blank_and (take l.n-index l.numbers)) l.self.bytes l.self.end
+invariant-loop-n l =
+    Put l.fn.self.bytes.now l.fn.self.end (l.word ++ flat_map blank_and (take l.n-index l.numbers)) l.self.bytes.now l.self.end

@@ -5,6 +5,6 @@ use mir.Facts.{to_z-of_z}
 use Rattle.print.proofs.Page.number.Goals as goal
 
 pub returns : goal.returns
-returns g c =
+returns c =
     let digits = c.as_bytes.ensures.value ∙ c.format.ensures.text ∙ ap signed_decimal (to_z-of_z c.ranges.n) in
     rw digits at c.text.ensures

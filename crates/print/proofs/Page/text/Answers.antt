@@ -4,8 +4,8 @@ use Rattle.print.proofs.Puts.{put_part}
 use Rattle.print.proofs.Page.text.Goals as goal
 
 pub invariant_of-self : goal.invariant_of-self
-invariant_of-self g c = omega arith
+invariant_of-self c = omega arith
 
 pub returns : goal.returns
-returns g c =
+returns c =
     put_part _ _ _ _ _ _ c.copy_from_slice.ensures.after (omega arith) (omega arith) (omega arith)
