@@ -4,6 +4,13 @@ ghost use Rattle.problem.specs.Problem.{Link, load as load_of};
 ghost use Rattle.records.specs.Answer.{member_bytes, link_record, total_record};
 
 use numbers::{Member, Price, Units};
+use records::Kind;
+
+const MEMBER: u8 = Kind::Member as u8;
+
+const FLOW: u8 = Kind::Flow as u8;
+
+const TOTAL: u8 = Kind::Total as u8;
 
 // A member's record.
 #[tactic(auto, unfolding(records::specs::Answer::member_bytes, records::specs::Answer::low16, records::specs::Answer::low32))]
@@ -12,7 +19,7 @@ pub fn member(j: Member, net: Units, value: Price) -> [u8; 8]
 {
     let [n0, n1] = net.bits().to_le_bytes();
     let [v0, v1, v2, v3] = value.bits().to_le_bytes();
-    [3, j.0, n0, n1, v0, v1, v2, v3]
+    [MEMBER, j.0, n0, n1, v0, v1, v2, v3]
 }
 
 // A link's load: thousandths of its capacity, or the mark for a link that has none.
@@ -32,7 +39,7 @@ pub fn link(a: Member, b: Member, flow: Units, load: u16) -> [u8; 8]
 {
     let [y0, y1] = flow.bits().to_le_bytes();
     let [z0, z1] = load.to_le_bytes();
-    [4, a.0, b.0, 0, y0, y1, z0, z1]
+    [FLOW, a.0, b.0, 0, y0, y1, z0, z1]
 }
 
 // The total's record.
@@ -41,5 +48,5 @@ pub fn total(total: Price) -> [u8; 8]
     ensures { result ≡ total_record total.0 }
 {
     let [v0, v1, v2, v3] = total.bits().to_le_bytes();
-    [5, 0, 0, 0, v0, v1, v2, v3]
+    [TOTAL, 0, 0, 0, v0, v1, v2, v3]
 }

@@ -8,7 +8,7 @@ use crate::bytes;
 use numbers::{Member, Units};
 
 // Where the link between two members is found: at the position that was reached over it, which is the lower member's or
-// the higher one's.
+// the higher one's. (`lower` tells whose the position is, which is there either way.)
 #[derive(Clone, Copy)]
 pub struct Joint {
     pub reached: usize,

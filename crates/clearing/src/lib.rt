@@ -37,6 +37,7 @@ pub fn clear(file: &[u8], answer: &mut [u8]) -> Result<usize, Refusal>
 {
     let feeder = market::market(file)?;
     let size = 16 * feeder.members as usize;
+    // named, so that the goal past the test keeps its name under the edit `room_of_the_file`
     let short = answer.len() < size;
     if short {
         return Err(Refusal {
