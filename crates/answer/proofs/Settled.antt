@@ -12,12 +12,11 @@ use borrow.Author.Tests.{eq-eqb, eqb-true, eqb-false, ltb-true, ltb-false, le-lt
 use Rattle.std.specs.Prelude.{Some, None}
 use Rattle.engine.specs.inner.Words.{net_in, sent_in}
 use Rattle.engine.specs.declared.Trade.{Trade}
-use Rattle.numbers.proofs.Tests.{and_both}
+use Rattle.std.proofs.lemmas.Bool.{and_from, cases_Bool}
 use Rattle.problem.specs.Problem.{Link, Market, InRange, value, load}
 use Rattle.problem.specs.Problem.InRange.{end, flow}
 use Rattle.problem.specs.Problem as P
 use Rattle.problem.proofs.Tree.{Tree}
-use Rattle.problem.proofs.Count.{either}
 use Rattle.problem.proofs.Max.{pick}
 use Rattle.problem.proofs.Links.{Ends}
 use Rattle.problem.proofs.Places.{from_first}
@@ -65,7 +64,7 @@ unfolding between
 between_one [] ys q a b e l p r h = absurd (omega arith)
 between_one (k ∷ ls) [] q a b e l p r h = absurd (omega arith)
 between_one (k ∷ ls) (y ∷ ys) q a b zero l p r h =
-    ap (λ (t : Bool). cond t (link_record k y) (between ls ys a b)) (and_both (eqb k.a a) (eqb k.b b) (eq-eqb k.a a p) (eq-eqb k.b b r))
+    ap (λ (t : Bool). cond t (link_record k y) (between ls ys a b)) (and_from (eqb k.a a) (eqb k.b b) (eq-eqb k.a a p) (eq-eqb k.b b r))
 between_one (k ∷ ls) (y ∷ ys) q a b (suc e) l p r h =
     ap (λ (t : Bool). cond t (link_record k y) (between ls ys a b)) (ends_other k a b (λ z. omega (arith, h 0 (omega arith) z.0 z.1)))
     ∙ between_one ls ys (omega arith) a b e (omega arith) p r (λ d k u v. omega (arith, h (suc d) (omega arith) u v))
@@ -215,7 +214,7 @@ module _ {m : Market} {ys : List ℤ} {records : List ℕ} (x : Allocation) (S :
   -- one end of each link was reached from the other: no link joins two members where neither was
   unlinked : (a b : ℕ) → (parent_at f (place_of x b) ≡ place_of x a → ⊥) → (parent_at f (place_of x a) ≡ place_of x b → ⊥)
       → (e : ℕ) → e < length m.links → (link_at m.links e).a ≡ a → (link_at m.links e).b ≡ b → ⊥
-  unlinked a b not-b not_a e l p q = go (either (lower_of m (suc d)))
+  unlinked a b not-b not_a e l p q = go (cases_Bool (lower_of m (suc d)))
     where
       d : ℕ
       d = reached_by m e

@@ -1,20 +1,19 @@
 -- The feeder of a market on a tree is that market's, by the walk's positions; so is that of a file that passes refusals 1 to
 -- 10, 13 and 14. Assumes nothing.
 use mathlib.Core.Path.{◌≡◌, refl, sym, ap, ap₂, ◌∙◌, subst}
-use mathlib.Core.Logic.{◌⊎◌, inl, inr}
+use mathlib.Core.Logic.{inl, inr, ⊎_elim}
 use mathlib.Core.Bool.{Bool, true, false, cond}
 use mathlib.Core.List.{List, [], ◌∷◌}
 use mathlib.Core.Option.{none}
 use Prim.Native.Nat.{ℕ, suc, ◌≤◌, ◌<◌}
 use native.Mathlib.Omega.{arith}
-use lib.Dec.{ltb}
 use lib.IntN.{pos}
 use lib.ListN.{length}
-use borrow.Author.Tests.{ne_eqb, ltb-true, ltb-false}
+use borrow.Author.Tests.{ne_eqb}
+use Rattle.std.proofs.lemmas.Bool.{cases_lt}
 use Rattle.problem.specs.Problem.{Link, Market, joins, walk}
 use Rattle.problem.proofs.Tree.{Within, Tree}
 use Rattle.problem.proofs.Links.{Ends, joins_ends}
-use Rattle.problem.proofs.Count.{either}
 use Rattle.problem.proofs.Max.{pick}
 use Rattle.problem.proofs.Steps.{Hop, at_pos, walk_walked, pos_one}
 use Rattle.problem.proofs.Places.{from_pos}
@@ -67,11 +66,7 @@ module _ (m : Market) (R : Tree m) (few : m.members ≤ 32) (small : (u v : ℕ)
   -- it is the walk's, or past the members
   seat_or : (P : Position → Type 0) (i : ℕ) → (i < m.members → P (laid_at m i)) → (m.members ≤ i → P no_position) → P (seat i)
   unfolding seat
-  seat_or P i a b = go (either (ltb i m.members))
-    where
-      go : (ltb i m.members ≡ true) ⊎ (ltb i m.members ≡ false) → P (position_at ps i)
-      go (inl e) = let l : i < m.members = ltb-true i m.members e in subst P (sym (L.at i l)) (a l)
-      go (inr e) = let l : m.members ≤ i = ltb-false i m.members e in subst P (sym (L.past i l)) (b l)
+  seat_or P i a b = ⊎_elim (λ l. subst P (sym (L.at i l)) (a l)) (λ l. subst P (sym (L.past i l)) (b l)) (cases_lt i m.members)
 
   at : (i : ℕ) → i < m.members → (seat i).member.0 ≡ arrange.member m i
   unfolding laid_at

@@ -1,7 +1,6 @@
 -- A pass over the records for the first that passes a test, and over the members for the lowest, turn by turn, in the code's
 -- terms. Assumes nothing.
-use mathlib.Core.Path.{◌≡◌, refl, sym, ap, ap₂, ◌∙◌}
-use mathlib.Core.Logic.{◌⊎◌, inl, inr}
+use mathlib.Core.Path.{◌≡◌, refl, ap, ap₂}
 use mathlib.Core.Bool.{Bool, true, false, cond}
 use mathlib.Core.List.{List, [], ◌∷◌}
 use mathlib.Core.Option.{Option, none, some}
@@ -11,9 +10,10 @@ use native.Mathlib.Omega.{arith}
 use native.Mathlib.Numerals.{add-one}
 use lib.Dec.{ltb}
 use lib.ListN.{length}
-use borrow.Author.Tests.{ltb-true, lt-ltb}
+use borrow.Author.Tests.{lt-ltb}
+use Rattle.std.proofs.lemmas.Bool.Decides.{nat_tests}
 use Rattle.problem.specs.Problem.{lowest}
-use Rattle.problem.proofs.Count.{either, lowest_hit, lowest_is}
+use Rattle.problem.proofs.Count.{lowest_hit, lowest_is}
 use Rattle.records.specs.Records.{Entry, entry_at, entries_from, entries}
 use Rattle.records.specs.Refusals.{place_if}
 use Rattle.records.proofs.Entries.{rest, ended}
@@ -58,15 +58,7 @@ module _ (p : ℕ → Bool) where
 
   pub member_none : (n j : ℕ) → Passed j → n ≤ j → lowest_member p n ≡ none
   unfolding lowest_member place_if
-  member_none n j h l = go (either (ltb (lowest (λ k. p (suc k)) n) n))
-    where
-      go : (ltb (lowest (λ k. p (suc k)) n) n ≡ true) ⊎ (ltb (lowest (λ k. p (suc k)) n) n ≡ false) → lowest_member p n ≡ none
-      go (inr e) = rw e
-      go (inl e) =
-          let b : lowest (λ k. p (suc k)) n < n = ltb-true _ n e in
-          let c : false ≡ true = sym (h _ (omega arith)) ∙ lowest_hit (λ k. p (suc k)) n b in
-          let z : ◌≡◌ {A = ℕ} 0 1 = cc in
-          absurd (omega arith)
+  member_none n j h l = let t = lowest (λ k. p (suc k)) n in grind (arith, nat_tests, lowest_hit (λ k. p (suc k)) n, h t)
 
 -- ---- two tests that agree on the members
 

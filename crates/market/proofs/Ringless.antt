@@ -4,7 +4,7 @@ use mathlib.Core.Bool.{Bool, true, false}
 use mathlib.Core.List.{List, [], ◌∷◌}
 use mathlib.Core.Option.{Option, none, some}
 use Prim.Native.Nat.{ℕ, suc}
-use Rattle.numbers.proofs.Tests.{true_false}
+use Rattle.std.proofs.lemmas.Bool.{true≢false}
 use Rattle.problem.specs.Problem.{joined}
 use Rattle.problem.proofs.Tree.{Open}
 use Rattle.problem.proofs.Joins.{joined_is}
@@ -24,7 +24,7 @@ open_from i earlier (link l ∷ es) e = go (joined (links_of earlier) l.a l.b) r
     go : (t : Bool) → joined (links_of earlier) l.a l.b ≡ t → ◌≡◌ {A = Option ℕ} (elim t [ true ↦ some i | false ↦ first_record closes (suc i) (link l ∷ earlier) es ]) none
         → (first_record closes (suc i) (link l ∷ earlier) es ≡ none → Open (l ∷ links_of earlier) (links_of es)) → Open (links_of earlier) (l ∷ links_of es)
     go true t e ih = cc (e)
-    go false t e ih = (λ j. true_false (sym ((joined_is (links_of earlier) l.a l.b).1 j) ∙ t), ih e)
+    go false t e ih = (λ j. true≢false (sym ((joined_is (links_of earlier) l.a l.b).1 j) ∙ t), ih e)
 
 pub ringless : (f : List ℕ) → first_record closes 0 [] (entries f) ≡ none → Open [] (links_of (entries f))
 unfolding links_of

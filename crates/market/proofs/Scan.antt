@@ -2,7 +2,6 @@
 use mathlib.Core.Path.{◌≡◌, refl, sym, ap, ap₂, ◌∙◌, subst, subst₂}
 use mathlib.Core.Bool.{true, false, cond, ◌&&◌}
 use mathlib.Core.List.{List, [], ◌∷◌, ◌++◌, append-nil, append_assoc}
-use mathlib.Core.Logic.{inl, inr, ◌⊎◌}
 use mathlib.Core.Option.{none, some}
 use Prim.Native.Nat.{ℕ, zero, suc, ◌+◌, ◌-◌, ◌/◌, ◌^◌, ◌≤◌, ◌<◌}
 use native.Mathlib.Nat.{not-suc-le-zero}
@@ -10,10 +9,9 @@ use native.Mathlib.Numerals.{add-one}
 use native.Mathlib.Omega.{arith}
 use lib.ListN.{length, take, length-append}
 use borrow.Author.Count.{below_more}
-use Rattle.numbers.proofs.Tests.{and_true}
+use Rattle.std.proofs.lemmas.Bool.{and_parts, false_from_ne_true}
 use Rattle.problem.specs.Problem.{Link, joined}
 use Rattle.problem.proofs.Tree.{Joined, Within}
-use Rattle.problem.proofs.Count.{either}
 use Rattle.problem.proofs.Joins.{joined_is}
 use Rattle.network.specs.declared.bits.Members.{Members}
 use Rattle.network.specs.inner.Sets.{holds, set_in}
@@ -148,7 +146,7 @@ module _ {f : List ℕ} {ps : List Members} {s : List Line} {n i : ℕ} (P : Pas
     pass_hit k e all wide l g =
         let below : e < k = omega (arith, length-take-le k ps wide) in
         let same = set_among ps k e below in
-        let t = and_true (holds (set_in (take k ps) e) a) (holds (set_in (take k ps) e) b) g in
+        let t = and_parts (holds (set_in (take k ps) e) a) (holds (set_in (take k ps) e) b) g in
         P.answer
         ∙ record_hit closes f n i more
         (closes_is
@@ -176,11 +174,7 @@ module _ {f : List ℕ} {ps : List Members} {s : List Line} {n i : ℕ} (P : Pas
           omega (arith, few 32 (link_in x ∷ before f i) (omega arith) ((x.ends.numbered.0.0, x.below, x.ends.numbered.1.1), before_within f i) no_ring, P.counted)
 
       not_closed : closes (earlier f i) (entry_at f i) ≡ false
-      not_closed = closes_is ∙ go (either (joined (before f i) (suc a) (suc b)))
-        where
-          go : (joined (before f i) (suc a) (suc b) ≡ true) ⊎ (joined (before f i) (suc a) (suc b) ≡ false) → joined (before f i) (suc a) (suc b) ≡ false
-          go (inl t) = absurd (apart ((joined_is (before f i) (suc a) (suc b)).0 t))
-          go (inr t) = t
+      not_closed = closes_is ∙ false_from_ne_true (joined (before f i) (suc a) (suc b)) (λ t. apart ((joined_is (before f i) (suc a) (suc b)).0 t))
 
       one_more : link_in x ∷ before f i ≡ before f (i + 1)
       unfolding earlier links_of

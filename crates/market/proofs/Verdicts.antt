@@ -9,7 +9,6 @@ use native.Mathlib.Omega.{arith}
 use lib.Dec.{eqb}
 use lib.ListN.{length}
 use borrow.Author.Tests.{eq-eqb, ne_eqb}
-use Rattle.numbers.proofs.Tests.{true_false}
 use Rattle.problem.specs.Problem.{Link, walk}
 use Rattle.records.specs.Records.{Entry, entries}
 use Rattle.records.specs.Records.Entry.{link, offer, begins, fault}
@@ -102,4 +101,4 @@ some_member f e = member_of_offer f (λ z. none_left (eqb (length (offers_of (en
   where
     none_left : (b : Bool) → b ≡ true → place_if b 0 ≡ none → ⊥
     none_left true t q = cc (q)
-    none_left false t q = true_false (sym t)
+    none_left false t q = cc

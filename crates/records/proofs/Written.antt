@@ -9,11 +9,11 @@ use lib.Dec.{eqb}
 use lib.ListN.{length, length-append}
 use lib.IntN.{ℤ}
 use Rattle.std.proofs.lemmas.Bool.Decides.{nat_tests}
-use Rattle.std.proofs.lemmas.Bool.{or_left, or_right}
+use Rattle.std.proofs.lemmas.Bool.{or_left, or_right, cases_Bool}
 use Rattle.problem.specs.Problem.{Link, Market, joins, neighbours}
 use Rattle.problem.proofs.Tree.{Tree, Open, Within}
 use Rattle.problem.proofs.Tree.Joined.{same, step}
-use Rattle.problem.proofs.Count.{same?, either}
+use Rattle.problem.proofs.Count.{same?}
 use Rattle.problem.proofs.Links.{ends_joins}
 use Rattle.problem.proofs.Arrange.{one_fewer}
 use Rattle.records.specs.Answer.{low16, low32, each, member_bytes, member_record, link_record, between, total_record, answer_of}
@@ -86,7 +86,7 @@ none_between : (e ls : List Link) → Open e ls → (u v : ℕ) → neighbours e
 unfolding between
 none_between e [] o u v h ys = refl
 none_between e (l ∷ ls) o u v h [] = refl
-none_between e (l ∷ ls) o u v h (y ∷ ys) = go (either (ends l u v)) (none_between (l ∷ e) ls o.1 u v (or_right (joins l u v) (neighbours e u v) h) ys)
+none_between e (l ∷ ls) o u v h (y ∷ ys) = go (cases_Bool (ends l u v)) (none_between (l ∷ e) ls o.1 u v (or_right (joins l u v) (neighbours e u v) h) ys)
   where
     go : (ends l u v ≡ true) ⊎ (ends l u v ≡ false) → between ls ys u v ≡ [] → cond (ends l u v) (link_record l y) (between ls ys u v) ≡ []
     go (inl t) ih =
