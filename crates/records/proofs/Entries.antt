@@ -157,9 +157,6 @@ pub record Known (k : ℕ) (e : Entry) : Type 0 where
   pub fits : Fits e
   pub member_is : MemberIs k e
 
-either : (k : ℕ) (t : Bool) (x y : Entry) → (t ≡ true → Known k x) → (t ≡ false → Known k y) → Known k (cond t x y)
-either k t x y f g = cond_both t x y (Known k) f g
-
 known_fault : (k n : ℕ) → Fits (fault n) → Known k (fault n)
 known_fault k n h = record { fits = h; member_is = tt }
 
@@ -169,7 +166,7 @@ link_fits a b z c y x e = record { low = grind (arith, nat_tests); below = grind
 link_known : (a b z c y x : ℕ) → Known a (link_of a b z c y x)
 unfolding link_of
 link_known a b z c y x =
-    either a (leb 1 a && ltb a b && leb b 32 && eqb z 0 && leb c 40 && eqb y 0 && eqb x 0) (link (record { a = a; b = b; capacity = c })) (fault 4)
+    cond_both _ _ _ (Known a)
     (λ e. record { fits = link_fits a b z c y x e; member_is = tt })
     (λ e. known_fault a 4 (inr (inl refl)))
 
@@ -182,7 +179,7 @@ is_price_lem p e = within_true (neg_ℤ (pos 1000000)) (pos 1000000) p e
 point_known : (j : ℕ) (x p : ℤ) → Known j (point_of j x p)
 unfolding point_of
 point_known j x p =
-    either j (is_member j && is_units x && is_price p) (offer (record { member = j; terms = P.Terms.point x p })) (fault 4)
+    cond_both _ _ _ (Known j)
     (λ e.
     let e2 = and_parts (is_member j && is_units x) (is_price p) e in
     let e1 = and_parts (is_member j) (is_units x) e2.0 in
@@ -197,7 +194,7 @@ sound_span l u a b e = (grind (arith, nat_tests), grind (arith, nat_tests))
 span_known : (j : ℕ) (l u a b : ℤ) → MemberFits j → Known j (span_of j l u a b)
 unfolding span_of
 span_known j l u a b m =
-    either j (bad_span l u a b) (fault 14) (offer (record { member = j; terms = P.Terms.span l u a b })) (λ e. known_fault j 14 (inr (inr (inr refl))))
+    cond_both _ _ _ (Known j) (λ e. known_fault j 14 (inr (inr (inr refl))))
     (λ e.
     let p = sound_span l u a b e in
     record { fits = record { member = m; worths = span_limited 1000000 l u a b (is_price_lem _ p.0) (is_price_lem _ p.1) }; member_is = refl })
@@ -206,30 +203,30 @@ module _ (f : List ℕ) (i : ℕ) where
   begin_known : Known (byte f i 1) (begin_at f i)
   unfolding begin_at
   begin_known =
-      either (byte f i 1) (fields_fit f i) _ _
+      cond_both _ _ _ (Known (byte f i 1))
       (λ e.
-      either (byte f i 1) (unfinished f i) (fault 13) (begins (byte f i 1)) (λ d. known_fault (byte f i 1) 13 (inr (inr (inl refl))))
+      cond_both (unfinished f i) _ (begins (byte f i 1)) (Known (byte f i 1)) (λ d. known_fault (byte f i 1) 13 (inr (inr (inl refl))))
       (λ d. record { fits = is_member_lem (byte f i 1) (and_parts (is_member (byte f i 1)) (is_units (units_at f i)) e).0; member_is = tt }))
       (λ e. known_fault (byte f i 1) 4 (inr (inl refl)))
 
   span_at_known : Known (byte f i 1) (span_at f i)
   unfolding span_at
   span_at_known =
-      either (byte f i 1) (fields_fit f i) _ _
+      cond_both _ _ _ (Known (byte f i 1))
       (λ e.
-      either (byte f i 1) (unbegun f i) _ _ (λ d. known_fault (byte f i 1) 13 (inr (inr (inl refl))))
+      cond_both (unbegun f i) _ _ (Known (byte f i 1)) (λ d. known_fault (byte f i 1) 13 (inr (inr (inl refl))))
       (λ d. span_known (byte f i 1) _ _ _ _ (is_member_lem (byte f i 1) (and_parts (is_member (byte f i 1)) (is_units (units_at f i)) e).0)))
       (λ e. known_fault (byte f i 1) 4 (inr (inl refl)))
 
   pub entry_known : Known (byte f i 1) (entry_at f i)
   unfolding entry_at link_at point_at
   entry_known =
-      either (byte f i 1) (eqb (byte f i 0) 1) _ _ (λ e. link_known (byte f i 1) (byte f i 2) (byte f i 3) (two f i 4) (byte f i 6) (byte f i 7))
+      cond_both (eqb (byte f i 0) 1) _ _ (Known (byte f i 1)) (λ e. link_known (byte f i 1) (byte f i 2) (byte f i 3) (two f i 4) (byte f i 6) (byte f i 7))
       (λ e.
-      either (byte f i 1) (eqb (byte f i 0) 2) _ _ (λ d. point_known (byte f i 1) (units_at f i) (number_at f i))
+      cond_both (eqb (byte f i 0) 2) _ _ (Known (byte f i 1)) (λ d. point_known (byte f i 1) (units_at f i) (number_at f i))
       (λ d.
-      either (byte f i 1) (eqb (byte f i 0) 6) _ _ (λ c. begin_known)
-      (λ c. either (byte f i 1) (eqb (byte f i 0) 7) _ _ (λ b. span_at_known) (λ b. known_fault (byte f i 1) 3 (inl refl)))))
+      cond_both (eqb (byte f i 0) 6) _ _ (Known (byte f i 1)) (λ c. begin_known)
+      (λ c. cond_both (eqb (byte f i 0) 7) _ _ (Known (byte f i 1)) (λ b. span_at_known) (λ b. known_fault (byte f i 1) 3 (inl refl)))))
 
 pub entry_fits : (f : List ℕ) (i : ℕ) → Fits (entry_at f i)
 entry_fits f i = (entry_known f i).fits
