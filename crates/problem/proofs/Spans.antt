@@ -1,13 +1,12 @@
 -- A price inside a span lies between its ends' prices, so that a table whose points and ends are in range is in range, and every
 -- table has a limit: a number B, no price being below -B. Assumes nothing.
-use mathlib.Core.Path.{◌≡◌, refl}
-use mathlib.Core.Bool.{Bool, true, false, cond}
 use mathlib.Core.List.{List, [], ◌∷◌}
 use mathlib.Core.Option.{Option, none, some}
 use Prim.Native.Nat.{ℕ, ◌+◌, ◌≤◌}
 use native.Mathlib.Omega.{arith}
 use lib.IntN.{ℤ, nat_abs, ◌+ℤ◌, ◌*ℤ◌}
 use lib.Signed.{◌≤ℤ◌}
+use Rattle.std.proofs.lemmas.Bool.{cond_both}
 use Rattle.numbers.specs.Whole.{eq_z, within}
 use Rattle.std.proofs.lemmas.Int.{ints}
 use Rattle.numbers.proofs.Tests.{within_true}
@@ -24,20 +23,14 @@ span_between B low high slope base x a b =
 
 pub point_limited : (B : ℕ) (units price : ℤ) → Limited B (some price) → (x : ℤ) → Limited B (worth (Terms.point units price) x)
 unfolding worth
-point_limited B units price h x = go (eq_z x units)
-  where
-    go : (b : Bool) → Limited B (cond b (some price) none)
-    go true = h
-    go false = tt
+point_limited B units price h x = cond_both (eq_z x units) (some price) none (Limited B) (λ e. h) (λ e. tt)
 
 pub span_limited : (B : ℕ) (low high slope base : ℤ) → Limited B (some ((slope *ℤ low) +ℤ base)) → Limited B (some ((slope *ℤ high) +ℤ base))
     → (x : ℤ) → Limited B (worth (Terms.span low high slope base) x)
 unfolding worth
-span_limited B low high slope base p q x = go (within low high x) refl
-  where
-    go : (b : Bool) → within low high x ≡ b → Limited B (cond b (some ((slope *ℤ x) +ℤ base)) none)
-    go true e = let i = within_true low high x e in span_between B low high slope base x i.0 i.1 p q
-    go false e = tt
+span_limited B low high slope base p q x =
+    cond_both (within low high x) (some ((slope *ℤ x) +ℤ base)) none (Limited B)
+    (λ e. let i = within_true low high x e in span_between B low high slope base x i.0 i.1 p q) (λ e. tt)
 
 -- ---- a limit for every table
 

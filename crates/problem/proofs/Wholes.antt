@@ -100,11 +100,7 @@ module _ (d : ℕ) (from-1 : 1 ≤ d) where
 
   offered_times : (o : Offer) (j : ℕ) (x : ℤ) → offered (offer_in d o) j (pos d *ℤ x) ≡ times d (offered o j x)
   unfolding offered times
-  offered_times o j x = rw (worth_times o.terms x) (go (eqb j o.member))
-    where
-      go : (b : Bool) → cond b (times d (worth o.terms x)) none ≡ times d (cond b (worth o.terms x) none)
-      go true = refl
-      go false = refl
+  offered_times o j x = grind (arith, worth_times o.terms x)
 
   higher_times : (u v : Option ℤ) → higher (times d u) (times d v) ≡ times d (higher u v)
   unfolding higher times
