@@ -37,7 +37,7 @@ impl Tally {
         self.by[m.index()] += 1;
     }
 
-    // Record i more.
+    // Record i more. (The clause on the file's length is that of `read_at`, whose promise is by a record's place.)
     fn counted(&mut self, file: &[u8], i: usize)
         requires { (8 * i + 8 ≤ length file.now) × (self.old.offers < 65535) × ((j : ℕ) → j < 32 → get_or self.old.by j 0 < 65535) }
         ensures { Counts (entry_at file.now i) self.old self.new }

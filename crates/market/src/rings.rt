@@ -16,7 +16,7 @@ use network::bits::Members;
 use network::parts::{Ends, gathered, holds_both, merged};
 use records::{Record, Refusal, Rule, read_at};
 
-// Record i as it is kept, if it is a link.
+// Record i as it is kept, if it is a link. (The clause on the file's length is that of `read_at`.)
 fn line_at(file: &[u8], i: usize) -> Option<Line>
     requires { 8 * i + 8 ≤ length file.now }
     ensures { MatchOption result ((l : Link) → entry_at file.now i ≢ link l) (λ x. entry_at file.now i ≡ link (link_in x)) }

@@ -111,7 +111,7 @@ impl TryFrom<u8> for Kind {
     }
 }
 
-// The bytes of record i.
+// The bytes of record i. (The clause on the file's length is that of `read_at`, which reads the records beside i too.)
 fn bytes_at(file: &[u8], i: usize) -> [u8; 8]
     requires { 8 * i + 8 ≤ length file.now }
     ensures { result ≡ bytes_at file.now i }

@@ -39,7 +39,8 @@ pub fn total_of(best: u32, n: u8) -> Price
     Price((best - 1) as i32 - shift)
 }
 
-// What record i offers member j. A record of another member, or one that only begins a span, is not read any further.
+// What record i offers member j. A record of another member, or one that only begins a span, is not read any further. (The
+// clause on the records' length is that of `read_at`.)
 fn offer_at(records: &[u8], i: usize, j: Member) -> Option<Span>
     requires { 8 * i + 8 ≤ length records.now }
     ensures { Offers (given records.now i j.0) result }
