@@ -12,7 +12,7 @@ use lib.Dec.{lit<}
 use Rattle.problem.proofs.Form.{Walk}
 use Rattle.problem.proofs.Reach.{reach, reach_par}
 use Rattle.problem.proofs.Table.{tab, chosen, tab_all, tab_kid, pick_kid, tab_other, tab_bound}
-use Rattle.engine.specs.inner.Words.{slot_of, cell_in, Sent, Kept, Taken}
+use Rattle.engine.specs.inner.Words.{Small, slot_of, cell_in, Sent, Kept, Taken}
 use Rattle.engine.proofs.Shape.{Shape, far, reach_first, reach_not}
 use Rattle.engine.proofs.Slots.{slot_apart}
 
@@ -69,7 +69,7 @@ module _ (k : Walk) (n : ℕ) (s : Shape k n) where
     here : (x : ℕ) → x ≤ reach k (suc i) (k.par i) → get_or row x 0 ≡ tab k n (suc i) (k.par i) x
     here x b = g.cells x (omega (arith, g.count))
 
-    kid_fits : ((v x : ℕ) → k.row v x ≤ 2000001) → Asked msgs row i (k.wide i) len
+    kid_fits : Small k.row → Asked msgs row i (k.wide i) len
     kid_fits o =
         let few = s.few in
         let high = g.high in (
@@ -106,7 +106,7 @@ module _ (k : Walk) (n : ℕ) (s : Shape k n) where
           which j y f other = grind (arith, new_pick y, other)
 
   -- as the code has it: v is the parent, and w how wide the link is
-  pub kid_law : {row store : List ℕ} {v w len i : ℕ} (msgs : List (List ℕ)) → ((v x : ℕ) → k.row v x ≤ 2000001) → Gathering k n row store v len (suc i) → 1 ≤ i
+  pub kid_law : {row store : List ℕ} {v w len i : ℕ} (msgs : List (List ℕ)) → Small k.row → Gathering k n row store v len (suc i) → 1 ≤ i
       → Sent k n msgs (v + 1) → k.par i ≡ v → w ≡ k.wide i → Asked msgs row i w len × Turned k n row store msgs v w len i
   kid_law {row} {store} {v} {w} {len} {i} msgs o g h m e we =
       subst (λ (u : ℕ). Asked msgs row i u len × Turned k n row store msgs v u len i) (sym we)
@@ -115,7 +115,7 @@ module _ (k : Walk) (n : ℕ) (s : Shape k n) where
 
   -- ---- a member's first row, and its message in the end
   pub start_law : (row store : List ℕ) (v len i : ℕ) → i ≡ n → v < n → len ≡ 1 + reach k n v → length row ≡ 2481
-      → ((x : ℕ) → x < len → get_or row x 0 ≡ k.row v x) → Kept k n store (v + 1) 0 → Gathering k n row store v len i
+      → ((x : ℕ) → x < len → get_or row x 0 ≡ k.row v x) → Kept k n store v n → Gathering k n row store v len i
   start_law row store v len i q l c lr e kept =
       subst (λ (t : ℕ). Gathering k n row store v len t) (sym q)
       record {
@@ -124,14 +124,8 @@ module _ (k : Walk) (n : ℕ) (s : Shape k n) where
         count = c;
         rows = lr;
         cells = λ x d. e x d ∙ sym (tab_all k n v x);
-        kept = record { kept = λ j y a b c d f. kept.kept j y a b (past j b c d) (λ z. omega arith) f };
+        kept = kept;
       }
-    where
-      past : (j : ℕ) → j < n → v ≤ k.par j → (k.par j ≡ v → n ≤ j) → v + 1 ≤ k.par j
-      past j b c d = omega (arith, other)
-        where
-          other : k.par j ≡ v → ⊥
-          other z = omega (arith, d z)
 
   module _ {row store : List ℕ} {v len i : ℕ} (g : Gathering k n row store v len i) (q : i ≤ v + 1) where
     last : i ≡ v + 1

@@ -33,10 +33,6 @@ top_of f v = around (λ i. parent_at f i) (λ i. toward_at f i) (λ i. away_at f
 unfoldable pub own_of : Feeder → List Offer → ℕ → ℕ → ℕ
 own_of f os v x = cell_of 1000000 (value os (member_at f v) (pos (top_of f v) -ℤ pos x))
 
--- the feeder's walk with the own rows that the offers of the records make
-abbrev pub form_of : Feeder → List ℕ → Walk
-form_of f records = walk_of f (own_of f (offers_of (entries records)))
-
 -- what a position's arrays hold, read by place; past the end stands nothing
 abbrev pub cell_in : List (List ℕ) → ℕ → ℕ → ℕ
 cell_in messages i p = get_or (get_or messages i []) p 0
@@ -49,6 +45,10 @@ net_in trades i = (get_or trades i (record { net = units (pos 0); sent = units (
 
 abbrev pub sent_in : List Trade → ℕ → ℤ
 sent_in trades i = (get_or trades i (record { net = units (pos 0); sent = units (pos 0) })).sent.0
+
+-- no price is past 1,000,000
+abbrev pub Small : (ℕ → ℕ → ℕ) → Type 0
+Small own = (v x : ℕ) → own v x ≤ 2000001
 
 -- where the choices of position i begin: the positions before it, from 1 on, have 1, 81, 161, .. places
 unfoldable pub slot_of : ℕ → ℕ
@@ -73,10 +73,17 @@ pub record Taken (message row store row' store' : List ℕ) (i w len : ℕ) : Ty
   pub before : (j : ℕ) → j < slot_of i → get_or store' j 0 ≡ get_or store j 0
   pub after : (j : ℕ) → slot_of i + (len - w) ≤ j → get_or store' j 0 ≡ get_or store j 0
 
--- the members from position v on have sent their messages
-pub record Done (f : Feeder) (records : List ℕ) (v : ℕ) (s : Stores) : Type 0 where
-  pub sent : Sent (form_of f records) f.members s.messages v
-  pub kept : Kept (form_of f records) f.members s.choices v 0
+-- before the member at v: its own row is what the table makes, and all past it have sent their messages
+pub record Ready (f : Feeder) (table : List ℕ) (v : ℕ) (s : Stores) (own : ℕ → ℕ → ℕ) : Type 0 where
+  pub small : Small own
+  pub row_is : (x : ℕ) → own v x ≡ own_of f (offers_of (entries table)) v x
+  pub sent : Sent (walk_of f own) f.members s.messages (v + 1)
+  pub kept : Kept (walk_of f own) f.members s.choices v f.members
+
+-- after it
+pub record Done (f : Feeder) (v : ℕ) (s : Stores) (own : ℕ → ℕ → ℕ) : Type 0 where
+  pub sent : Sent (walk_of f own) f.members s.messages v
+  pub kept : Kept (walk_of f own) f.members s.choices v 0
 
 -- the choice at each of n positions, and the index that the choices give it
 pub record Settled (k : Walk) (n : ℕ) (chosen : List Choice) : Type 0 where

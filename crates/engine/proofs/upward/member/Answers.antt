@@ -1,44 +1,48 @@
--- `member` meets its contract. The loop's invariant: the row has taken in the children from position k on; no message has
--- changed.
+-- `member` meets its contract. The loop's invariant: for every own row that the table makes, the row has taken in the children
+-- from position k on; no message has changed.
 use native.Mathlib.Omega.{arith}
-use mathlib.Core.Path.{◌≡◌, refl, ◌∙◌}
+use mathlib.Core.Path.{◌≡◌, refl, sym, ◌∙◌}
 use mathlib.Core.List.{[]}
 use Prim.Native.Nat.{ℕ, ◌+◌, ◌-◌, ◌<◌, ◌≤◌, ◌^◌}
 use lib.ListN.{length, take}
 use lib.Seq.{get_or-take, set-get_or, length-take-le}
 use Rattle.std.proofs.Common.{rules}
-use Rattle.records.specs.Records.{entries}
-use Rattle.records.specs.Market.{offers_of}
-use Rattle.engine.specs.inner.Words.{own_of, form_of}
+use Rattle.engine.specs.inner.Words.{walk_of, Ready}
 use Rattle.engine.proofs.Shape.{shape}
 use Rattle.engine.proofs.Parts.{fronts, whole, taken_whole}
-use Rattle.engine.proofs.Passes.{small, own_law}
+use Rattle.engine.proofs.Passes.{own_law}
 use Rattle.engine.proofs.Turns.{fallen, Asked, Turned, kid_law, turn_not, start_law, end_len, end_kept, end_sent}
 use Rattle.engine.proofs.upward.member.Goals as goal
 use Rattle.engine.proofs.upward.member.Goals.{After-width-w, At-loop-k}
 
 -- a child of v: what taking in its message asks, and how the row stands then
-kid : (c : After-width-w) → let f = c.args.feeder.now in let st = c.loop-k.stores in let i = c.loop-k.k - 1 in
+kid : (c : After-width-w) (own : ℕ → ℕ → ℕ) → Ready c.args.feeder.now c.args.table.now c.args.v c.args.stores.now own
+    → let f = c.args.feeder.now in let st = c.loop-k.stores in let i = c.loop-k.k - 1 in
     Asked st.messages c.loop-k.row i c.width-w.result c.loop-k.len
-    × Turned (form_of f c.args.records.now) f.members c.loop-k.row st.choices st.messages c.args.v c.width-w.result c.loop-k.len i
-kid c =
+    × Turned (walk_of f own) f.members c.loop-k.row st.choices st.messages c.args.v c.width-w.result c.loop-k.len i
+kid c own r =
     let f = c.args.feeder.now in
-    kid_law (form_of f c.args.records.now) f.members (shape f _) c.loop-k.stores.messages (small f c.args.records.now) (fallen _ _ c.loop-k.invariant.gathered (omega arith)) (omega arith)
-    (rw c.loop-k.invariant.messages c.requires.1.sent) (omega arith) (omega arith)
+    kid_law (walk_of f own) f.members (shape f own) c.loop-k.stores.messages r.small (fallen _ _ (c.loop-k.invariant.gathered own r) (omega arith)) (omega arith)
+    (rw c.loop-k.invariant.messages r.sent) (omega arith) (omega arith)
+
+asked : (c : After-width-w) → Asked c.loop-k.stores.messages c.loop-k.row (c.loop-k.k - 1) c.width-w.result c.loop-k.len
+asked c = (kid c c.requires.ready.0 c.requires.ready.1).0
 
 front : (c : After-width-w) → length (take c.loop-k.len c.loop-k.row) ≡ c.loop-k.len
-front c = length-take-le c.loop-k.len c.loop-k.row (omega (arith, c.loop-k.invariant.gathered.rows, (kid c).0.0))
+front c =
+    let r = c.requires.ready in
+    length-take-le c.loop-k.len c.loop-k.row (omega (arith, (c.loop-k.invariant.gathered r.0 r.1).rows, (asked c).0))
 
 pub overflow_sub-len : goal.overflow_sub-len
-overflow_sub-len c = let s = (kid (goal.at.overflow_sub-len c).After-width-w).0.0 in omega (arith, s)
+overflow_sub-len c = let s = (asked (goal.at.overflow_sub-len c).After-width-w).0 in omega (arith, s)
 
 pub loop-k-preserved : goal.loop-k-preserved
 loop-k-preserved c = record {
   few = omega arith;
   messages = c.loop-k.invariant.messages;
-  gathered =
+  gathered = λ own r.
       let f = c.args.feeder.now in
-      turn_not (form_of f c.args.records.now) _ (shape f _) (fallen _ _ c.loop-k.invariant.gathered (omega arith)) (omega arith) (λ e. c.if-feeder-k.false (omega arith));
+      turn_not (walk_of f own) _ (shape f own) (fallen _ _ (c.loop-k.invariant.gathered own r) (omega arith)) (omega arith) (λ e. c.if-feeder-k.false (omega arith));
 }
 
 pub loop-k-init : goal.loop-k-init
@@ -48,57 +52,56 @@ loop-k-init c =
     record {
       few = search rules;
       messages = refl;
-      gathered = start_law (form_of f c.args.records.now) f.members (shape f _) _ _ c.args.v _ _ refl c.requires.0 (c.row_len-len.ensures.joined _)
+      gathered = λ own r.
+          start_law (walk_of f own) f.members (shape f own) _ _ c.args.v _ _ refl c.requires.feeder (c.row_len-len.ensures.joined own)
           (whole c.args.row.now c.own_row.new.row _ n c.own_row.auto.row ∙ omega arith)
-          (own_law f c.args.records.now c.own_row.new.row _ c.args.v c.row_len-len.result _ c.top.result.0 n c.top.ensures c.own_row.auto.row c.own_row.ensures) c.requires.1.kept;
+          (λ x d. own_law f c.args.table.now c.own_row.new.row _ c.args.v c.row_len-len.result _ c.top.result.0 n c.top.ensures c.own_row.auto.row c.own_row.ensures x d ∙ sym (r.row_is x)) r.kept;
     }
 
 pub take_in-requires-clause-cells : goal.take_in-requires-clause-cells
 take_in-requires-clause-cells c =
     let b = (goal.at.take_in-requires-clause-cells c).After-width-w in
-    let s = (kid b).0.0 in
+    let s = (asked b).0 in
     let n = front b in
     (s.0, s.1, s.2, omega (arith, n, s), omega (arith, n, s))
 
 pub take_in-requires-clause-values : goal.take_in-requires-clause-values
 take_in-requires-clause-values c =
-    let a = (kid (goal.at.take_in-requires-clause-values c).After-width-w).0.1 in
+    let a = (asked (goal.at.take_in-requires-clause-values c).After-width-w).1 in
     (fronts (λ (z : ℕ). z < 2 ^ 31) _ _ a.1, a.0)
 
 pub loop-k-preserved-then-feeder-k : goal.loop-k-preserved-then-feeder-k
 loop-k-preserved-then-feeder-k c =
     let b = (goal.at.loop-k-preserved-then-feeder-k c).After-width-w in
     let n = front b in
-    let k = kid b in
     record {
       few = omega arith;
       messages = set-get_or c.loop-k.stores.messages _ [] ∙ c.loop-k.invariant.messages;
-      gathered = k.1 _ _ (taken_whole _ c.loop-k.row _ c.take_in.new.row _ _ _ _ _ n c.take_in.ensures c.take_in.auto.row k.0.0.3)
+      gathered = λ own r.
+          (kid b own r).1 _ _ (taken_whole _ c.loop-k.row _ c.take_in.new.row _ _ _ _ _ n c.take_in.ensures c.take_in.auto.row (asked b).0.3)
           (whole c.loop-k.row c.take_in.new.row _ n c.take_in.auto.row);
     }
 
 -- at the end: what is left of the row is v's message
 ends : (c : At-loop-k) → c.loop-k.k ≤ c.args.v + 1 → c.loop-k.len ≤ 81
 ends c q =
-    let f = c.args.feeder.now in
-    let k = form_of f c.args.records.now in
-    let z = shape f (own_of f (offers_of (entries c.args.records.now))) in
-    omega (arith, end_len k _ z c.loop-k.invariant.gathered q, z.narrow c.args.v)
+    let r = c.requires.ready in
+    let z = shape c.args.feeder.now r.0 in
+    omega (arith, end_len (walk_of c.args.feeder.now r.0) _ z (c.loop-k.invariant.gathered r.0 r.1) q, z.narrow c.args.v)
 
 pub put_message-requires : goal.put_message-requires
 put_message-requires c = let h = ends (goal.at.put_message-requires c).At-loop-k c.loop-k-test.false in search rules
 
 pub returns : goal.returns
-returns c =
-    let f = c.args.feeder.now in
-    let k = form_of f c.args.records.now in
-    let s = shape f (own_of f (offers_of (entries c.args.records.now))) in
-    let g = c.loop-k.invariant.gathered in
+returns c = λ own r.
+    let k = walk_of c.args.feeder.now own in
+    let s = shape c.args.feeder.now own in
+    let g = c.loop-k.invariant.gathered own r in
     let q = c.loop-k-test.false in
     let lm : c.args.v < length c.loop-k.stores.messages = search rules in
     let n : length (take c.loop-k.len c.loop-k.row) ≡ c.loop-k.len = search rules in
     record {
-      sent = end_sent k _ s g q c.loop-k.stores.messages _ lm (rw c.loop-k.invariant.messages c.requires.1.sent)
+      sent = end_sent k _ s g q c.loop-k.stores.messages _ lm (rw c.loop-k.invariant.messages r.sent)
           (λ x d. c.put_message.ensures x (omega arith) ∙ get_or-take c.loop-k.len c.loop-k.row x 0 d);
       kept = end_kept k _ s g q;
     }
