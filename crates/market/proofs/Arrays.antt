@@ -4,7 +4,7 @@ use mathlib.Core.Path.{◌≡◌, sym, ap, ap₂, ◌∙◌}
 use mathlib.Core.Bool.{not}
 use mathlib.Core.List.{List, []}
 use mathlib.Core.Option.{none, some}
-use Prim.Native.Nat.{ℕ, suc, ◌+◌, ◌≤◌, ◌<◌}
+use Prim.Native.Nat.{ℕ, suc, ◌+◌, ◌^◌, ◌≤◌, ◌<◌}
 use native.Mathlib.Omega.{arith}
 use lib.IntN.{pos}
 use lib.ListN.{length}
@@ -21,7 +21,7 @@ use Rattle.network.specs.declared.walk.Step.{Step}
 use Rattle.network.specs.inner.Positions.{no_position, position_at}
 use Rattle.network.specs.inner.Sets.{Lowest}
 use Rattle.network.specs.inner.Walks.{Masks, Adj, Holds, WalkOf, walked_at, walked_from}
-use Rattle.network.proofs.Near.{adj_of, all_joined, not_joined}
+use Rattle.network.proofs.Near.{adj_of, reached_small, all_joined, not_joined}
 use Rattle.market.specs.Refusals.{apart}
 use Rattle.market.specs.inner.Feeders.{reached_at, reached_from, position_of, capacity_of, laid_at, PositionsOf, step_at}
 use Rattle.market.specs.inner.Lines.{market_on}
@@ -40,6 +40,9 @@ module _ (n : ℕ) (ls : List Link) (p : 1 ≤ n) (few : n ≤ 32) (w : Within n
     (W : WalkOf adj steps count mask) where
   A : Adj ls n adj
   A = adj_of ls n adj p few w M
+
+  pub mask_small : mask < 2 ^ n
+  mask_small = reached_small ls n adj steps count mask A W
 
   -- r is the lowest member not reached, counted from 0
   module _ (r : ℕ) (L : Lowest mask n r) where

@@ -3,21 +3,23 @@
 use mathlib.Core.Path.{◌≡◌}
 use mathlib.Core.Bool.{true, false, ◌&&◌, ◌||◌}
 use mathlib.Core.List.{List, [], ◌∷◌}
-use Prim.Native.Nat.{ℕ, suc, ◌+◌, ◌-◌, ◌≤◌, ◌<◌}
+use Prim.Native.Nat.{ℕ, suc, ◌+◌, ◌-◌, ◌^◌, ◌≤◌, ◌<◌}
 use native.Mathlib.Nat.{le_trans}
 use native.Mathlib.Omega.{arith}
 use lib.ListN.{length, set, replicate}
 use lib.Dec.{eqb}
+use Rattle.std.proofs.lemmas.Bool.{false_from_ne_true}
 use Rattle.std.proofs.lemmas.Grind.{common_steps}
+use Rattle.std.proofs.lemmas.Nat.Bits.{bit_at-lt}
 use Rattle.network.specs.inner.Sets.{holds, set_in, Lowest}
 use Rattle.network.specs.inner.Walks.{mark, add_masks, Masks, Adj, WalkOf, Blank}
-use Rattle.network.proofs.Bit.{holds_or, holds_one, holds_none}
+use Rattle.network.proofs.Bit.{holds_or, holds_one, holds_none, small_set}
 use Rattle.network.specs.declared.bits.Members.{Members}
 use Rattle.network.specs.declared.walk.Step.{Step}
 use Rattle.problem.specs.Problem.{Link, neighbours, joined}
 use Rattle.problem.proofs.Tree.{Within}
 use Rattle.problem.proofs.Joins.{joined_is}
-use Rattle.problem.proofs.Steps.{walk_visits}
+use Rattle.problem.proofs.Steps.{hops, reached, reached_pos, at_in, walk_visits, walk_walked}
 
 -- the neighbours of all the links are those of the masks so far and those of the links that are left
 pub record Near (whole : List Link) (adj : List Members) (left : List Link) : Type 0 where
@@ -52,6 +54,20 @@ module _ (ls : List Link) (n : ℕ) (adj : List Members) (steps : List Step) (co
       let v = walk_visits ls n A.some_member A.within (suc k) in
       let j = joined_is ls 1 (suc k) in
       grind (arith, (W ls n A).seen k, v.0, v.1, j.0, j.1)
+
+  -- no member after the last one
+  pub reached_small : mask < 2 ^ n
+  unfolding holds
+  reached_small =
+      let t = hops ls (suc n) (suc n) in
+      small_set n mask
+      (λ k l. grind (
+        arith,
+        (W ls n A).seen k,
+        bit_at-lt mask k,
+        false_from_ne_true (reached t (suc k))
+            (λ e. let p = reached_pos t (suc k) e in omega (arith, (at_in ls n A.some_member A.within t (walk_walked ls (suc n) (suc n)) p.0).1, p.2)),
+      ))
 
   -- r is the lowest missing: every lower one is joined to member 1, and r is not, unless all are
   module _ (r : ℕ) (L : Lowest mask n r) where

@@ -1,5 +1,5 @@
 // Sets of members as the bits of a number: a member's bit is its index.
-ghost use Rattle.std.specs.Prelude.{◌≡◌, ◌≢◌, ◌+◌, ◌≤◌, ◌^◌, MatchOption};
+ghost use Rattle.std.specs.Prelude.{◌≡◌, ◌≢◌, ◌+◌, ◌<◌, ◌≤◌, ◌^◌, MatchOption};
 ghost use Rattle.std.specs.Int.{w32, trailing_zeros};
 ghost use Rattle.std.specs.Int.Bits.{bit_or};
 ghost use Rattle.network.specs.inner.Sets.{Numbered, index, holds, Lowest};
@@ -61,14 +61,13 @@ impl Members {
 
     // The lowest member that is not in the set, of those up to the last one.
     pub fn lowest_missing(self, last: Member) -> Option<Member>
-        requires { last.0 ≤ 32 }
+        requires { (last.0 ≤ 32) × (self.0 < 2 ^ last.0) }
         ensures { MatchOption result (Lowest self.0 last.0 last.0) (λ v. (1 ≤ v.0) × (v.0 ≤ last.0) × Lowest self.0 last.0 (index v)) }
     {
-        let index = self.0.trailing_ones();
-        if index < u32::from(last.0) {
-            Some(Member::at(index as usize))
-        } else {
+        if self.0.count_ones() == u32::from(last.0) {
             None
+        } else {
+            Some(Member::at((!self.0).trailing_zeros() as usize))
         }
     }
 }

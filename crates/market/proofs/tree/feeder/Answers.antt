@@ -7,12 +7,18 @@ use Rattle.std.proofs.lemmas.Option.{MatchOption-at_some, MatchOption-at_none}
 use Rattle.problem.proofs.Tree.{Tree}
 use Rattle.records.specs.inner.Cases.{rule_of}
 use Rattle.market.specs.inner.Lines.{kept, market_on}
-use Rattle.market.proofs.Arrays.{apart_some, apart_none, tree_none, from_in, steps_laid}
+use Rattle.market.proofs.Arrays.{mask_small, apart_some, apart_none, tree_none, from_in, steps_laid}
 use Rattle.market.proofs.Kept.{capacity_low}
 use Rattle.market.proofs.Laid.{positions_sound}
 use Rattle.market.proofs.Verdicts.{last_decided, last_left}
 use Rattle.market.proofs.tree.feeder.Goals as goal
 use Rattle.market.proofs.tree.feeder.Goals.{In_default}
+
+pub lowest_missing-requires : goal.lowest_missing-requires
+lowest_missing-requires c =
+    let s = c.requires in
+    let w = c.walk-walked.result in
+    (s.1, mask_small c.args.n.0 _ s.0 s.1 s.2 _ w.step w.count w.reached.0 c.neighbours.ensures c.walk-walked.ensures.0)
 
 pub returns-in-Some : goal.returns-in-Some
 unfolding rule_of

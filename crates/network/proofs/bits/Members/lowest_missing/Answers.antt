@@ -1,10 +1,12 @@
 use Rattle.std.proofs.Common.{arith}
-use Rattle.network.proofs.Bit.{lowest_none, lowest_some}
+use Rattle.network.specs.inner.Sets.{index}
+use Rattle.network.proofs.Bit.{lowest_full, lowest_trailing}
 use Rattle.network.proofs.bits.Members.lowest_missing.Goals as goal
 
-pub returns-then-index-from : goal.returns-then-index-from
-returns-then-index-from c =
-    (omega arith, omega arith, lowest_some _ _ _ c.requires (omega arith) (omega arith) (omega arith))
+pub returns-then-self-from : goal.returns-then-self-from
+returns-then-self-from c = lowest_full _ _ c.requires.1 (omega arith)
 
-pub returns-else-index-from : goal.returns-else-index-from
-returns-else-index-from c = lowest_none _ _ c.trailing_ones-index.result c.requires (omega arith) c.trailing_ones-index.ensures (omega arith)
+pub returns-else-self-from : goal.returns-else-self-from
+returns-else-self-from c =
+    let low = lowest_trailing _ _ c.requires.1 c.requires.0 (index c.at.result) (omega arith) (λ e. omega (arith, e)) in
+    (omega arith, omega (arith, low.0), low.1)
