@@ -41,22 +41,28 @@ pub fn links(file: &[u8]) -> Result<ArrayVec<Line, 31>, Refusal>
     let mut links = ArrayVec::new();
     // as many parts as links; an array all the same, for `merged` promises of what stands past them that it stays
     let mut parts = [Members(0); 31];
-    'records: for i in 0..file.len() / 8 {
-        let Some(line) = line_at(file, i) else {
-            continue;
-        };
-        let mut m = Members::only(line.ends.a).join(Members::only(line.ends.b));
-        'parts: for part in &parts[..links.len()] {
-            if holds_both(*part, line.ends) {
-                return Err(Refusal {
-                    rule: Rule::ClosesRing,
-                    place: i as u16,
-                });
+    let closing = 'closing: {
+        'records: for i in 0..file.len() / 8 {
+            let Some(line) = line_at(file, i) else {
+                continue;
+            };
+            let mut m = Members::only(line.ends.a).join(Members::only(line.ends.b));
+            'parts: for part in &parts[..links.len()] {
+                if holds_both(*part, line.ends) {
+                    break 'closing Some(i as u16);
+                }
+                m = gathered(m, *part, line.ends);
             }
-            m = gathered(m, *part, line.ends);
+            merged(&mut parts, links.len(), line.ends, m);
+            links.push(line);
         }
-        merged(&mut parts, links.len(), line.ends, m);
-        links.push(line);
+        None
+    };
+    if let Some(place) = closing {
+        return Err(Refusal {
+            rule: Rule::ClosesRing,
+            place,
+        });
     }
     Ok(links)
 }

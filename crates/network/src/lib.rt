@@ -23,7 +23,7 @@ pub struct Position {
 }
 
 // A market's tree by the positions of its walk: position 0 is member 1, and position i the i-th member reached. What stands
-// past the members is 0.
+// past the members is 0. (An array beside its length, for `Sound` says of every place what a walk's laws need, past it too.)
 #[derive(Clone, Copy)]
 pub struct Feeder {
     pub members: u8,

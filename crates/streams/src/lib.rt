@@ -67,19 +67,26 @@ fn write_all<W: Write>(writer: &mut W, text: &[u8]) -> io::Result<()>
     Ok(())
 }
 
-// Writes a page for each file that an argument names, in the bytes that are lent: what `tell` makes of the file's name and its
-// bytes, or of the words that say why they are not known. A page that cannot be written is passed over, and said to be.
-pub fn each_file<R, W, F>(rt: &R, output: &mut W, bytes: &mut [u8], tell: F) -> io::Result<()>
+// Writes a page for each file that an argument names: what `tell` makes of the file's name and its bytes, or of the words that
+// say why they are not known. The bytes stand in the room that is lent, and the page on those that are. A page that cannot be
+// written is passed over, and said to be; an error, where the arguments cannot be had, comes before the first.
+pub fn each_file<R, W, F>(
+    rt: &R,
+    output: &mut W,
+    room: &mut [u8],
+    bytes: &mut [u8],
+    tell: F,
+) -> io::Result<()>
 where
     R: Env + Files + AllocGlobal,
     W: Write,
     F: Fn(&mut Page, &str, Result<&[u8], &str>),
     requires { F.IsAlwaysCallable tell }
+    ensures { OnErr result (Keeps (W.contents output.old) (W.contents output.new)) }
 {
     for path in env::args(rt)?.skip(1) {
-        let mut file = [0u8; 33032];
         let mut page = Page::at(bytes, 0);
-        let read = bytes_of(rt, path.as_str(), &mut file);
+        let read = bytes_of(rt, path.as_str(), room);
         tell(&mut page, path.as_str(), read);
         let end = page.end;
         if !matches!(write(output, bytes, end), Ok(true)) {

@@ -15,5 +15,5 @@ fn tell(page: &mut Page, name: &str, file: Result<&[u8], &str>) {
 }
 
 fn main(rt: HostRuntime) -> io::Result<()> {
-    streams::each_file(&rt, &mut rt.stdout(), &mut [0; 2112], tell)
+    streams::each_file(&rt, &mut rt.stdout(), &mut [0; 33024], &mut [0; 2112], tell)
 }

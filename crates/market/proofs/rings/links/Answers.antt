@@ -15,7 +15,7 @@ use Rattle.market.proofs.Scan.{Pass, pass_start, pass_skip, pass_end, searched_n
 use Rattle.market.proofs.Verdicts.{decided, left_over}
 use Rattle.market.specs.inner.Lines.{link_in}
 use Rattle.market.proofs.rings.links.Goals as goal
-use Rattle.market.proofs.rings.links.Goals.{In-Some}
+use Rattle.market.proofs.rings.links.Goals.{In-Some, then-records-test+in-Some+then-parts-test+then-holds_both, else-records-test}
 
 pub records-init : goal.records-init
 records-init c = subst (λ (s : List Line). Pass c.args.file.now _ s (length c.args.file.now / 8) 0) (sym c.new-links.ensures) (pass_start _ _)
@@ -29,13 +29,6 @@ parts-init c = searched_none _ _ _ _ (c.join-m.ensures ∙ ap₂ bit_or c.only.e
 -- record i is a link
 is_link : (c : In-Some) → entry_at c.args.file.now c.records.i ≡ link (link_in c.in-Some.line)
 is_link c = MatchOption-at_some _ _ _ c.in-Some.is c.line_at.ensures
-
-pub returns-then-holds_both : goal.returns-then-holds_both
-unfolding rule_of
-returns-then-holds_both c =
-    let is = is_link (goal.at.returns-then-holds_both c).In-Some in
-    let wide : c.len.result ≤ length c.records.parts = search rules in
-    decided 9 _ _ _ (pass_hit c.records.invariant c.records-test.true c.in-Some.line is _ _ c.len.ensures.value wide c.parts-test.true (sym c.holds_both.ensures ∙ c.if-holds_both.true))
 
 pub parts-preserved : goal.parts-preserved
 parts-preserved c = searched_more _ _ _ _ _ _ _ refl (sym c.holds_both.ensures ∙ c.if-holds_both.false) c.gathered-m.ensures c.parts.invariant
@@ -59,7 +52,23 @@ records-preserved c =
     pass_link c.records.invariant c.records-test.true c.in-Some.line is _ _ _ c.len.ensures.value wide c.parts-test.false c.parts.auto.part-index-end c.parts.invariant _ _ _ c.push.ensures.items
     c.len-in-records.ensures.value c.merged.ensures
 
+pub returns-in-Some-closing : goal.returns-in-Some-closing
+unfolding rule_of
+returns-in-Some-closing c =
+    elim c.records-test.branch [
+      | then-records-test+in-Some+then-parts-test+then-holds_both w ↦
+          let is = MatchOption-at_some _ _ _ w.in-Some.is w.line_at.ensures in
+          let wide : w.len.result ≤ length c.records.parts = search rules in
+          let at : c.records.i ≡ c.in-Some-closing.place = cc (sym w.closing-is ∙ c.in-Some-closing.is) in
+          rw (← at) (decided 9 _ _ _ (pass_hit c.records.invariant w.records-test.true w.in-Some.line is _ _ w.len.ensures.value wide w.parts-test.true (sym w.holds_both.ensures ∙ w.if-holds_both.true)))
+      | else-records-test w ↦ cc (sym c.in-Some-closing.is ∙ w.closing-is)
+    ]
+
 pub returns : goal.returns
 returns c =
-    let e = pass_end _ _ _ _ _ c.records-test.false c.records.invariant in
-    (left_over 9 _ _ e.0, e)
+    elim c.records-test.branch [
+      | then-records-test+in-Some+then-parts-test+then-holds_both w ↦ absurd (c.in_default-closing.not-Some _ w.closing-is)
+      | else-records-test w ↦
+          let e = pass_end _ _ _ _ _ w.records-test.false c.records.invariant in
+          (left_over 9 _ _ e.0, e)
+    ]
