@@ -35,7 +35,7 @@ pub fn read<R: Read>(reader: &mut R, file: &mut [u8]) -> io::Result<usize>
 }
 
 // Writes a page up to the place that its text reached, in one write. False where the page is full, and then nothing is
-// written; an error where the write failed.
+// written; an error where the write failed. (False and no error, and any place: that is the clause `full`.)
 pub fn write<W: Write>(writer: &mut W, page: &[u8], end: usize) -> io::Result<bool>
     ensures full { length page.now ≤ end → result ≡ Ok false }
     ensures kept { length page.now ≤ end → Keeps (W.contents writer.old) (W.contents writer.new) }
