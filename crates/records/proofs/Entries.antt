@@ -265,7 +265,7 @@ module _ (f : List ℕ) (i n : ℕ) where
   none_left h = rw (ended f i n h)
 
   module _ (r : Result Record Rule) (h : i < n) (is : r ≡ reading_of (entry_at f i)) where
-    fault_here : (k : Rule) → r ≡ Err k → faulty i (entries_from f i (n - i)) ≡ some (record { number = number_of k; place = i })
+    pub fault_here : (k : Rule) → r ≡ Err k → faulty i (entries_from f i (n - i)) ≡ some (record { number = number_of k; place = i })
     unfolding faulty
     fault_here k e = rw (rest f i n h, fault_is (entry_at f i) (entry_fits f i) k (sym is ∙ e))
 

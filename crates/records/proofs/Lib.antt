@@ -1,4 +1,5 @@
 pub mod Entries
+pub mod Pairs
 pub mod Rules
 pub mod Allowed
 pub mod Written
