@@ -121,17 +121,18 @@ module _ (f : List ℕ) (i : ℕ) where
   a_beginning e j x = not_offered j x (entry_at f i) (kind_6 f i e)
 
   module _ (r : Result Record Rule) (is : r ≡ reading_of (entry_at f i)) where
-    none_read : ((m : Member) (t : Terms) → r ≡ Ok (Record.Offer m t) → ⊥) → (j : ℕ) (x : ℤ) → given f i j x ≡ 0
+    -- it is read as no offer: as another record, or as a fault
+    pub no_offer_lem : ((m : Member) (t : Terms) → r ≡ Ok (Record.Offer m t) → ⊥) → (j : ℕ) (x : ℤ) → given f i j x ≡ 0
     unfolding given
-    none_read d j x = not_offered j x (entry_at f i) (not_offer r (entry_at f i) is d)
+    no_offer_lem d j x = not_offered j x (entry_at f i) (not_offer r (entry_at f i) is d)
 
     pub a_fault : None ≡ result_ok r → (j : ℕ) (x : ℤ) → given f i j x ≡ 0
-    a_fault e = none_read (λ m t q. let s = e ∙ ap result_ok q in cc (s))
+    a_fault e = no_offer_lem (λ m t q. let s = e ∙ ap result_ok q in cc (s))
 
     -- k is the record that is read
     module _ (k : Record) (e : Some k ≡ result_ok r) where
       pub no_offer : ((m : Member) (t : Terms) → k ≡ Record.Offer m t → ⊥) → (j : ℕ) (x : ℤ) → given f i j x ≡ 0
-      no_offer d = none_read (λ m t q. let s = e ∙ ap result_ok q in d m t (cc (s)))
+      no_offer d = no_offer_lem (λ m t q. let s = e ∙ ap result_ok q in d m t (cc (s)))
 
       module _ (m : Member) (t : Terms) (o : k ≡ Record.Offer m t) where
         entry_is : entry_at f i ≡ offer (record { member = m.0; terms = terms_in t })
@@ -158,7 +159,7 @@ alone : (u x : ℤ) → eq_z x u ≡ within u u x
 unfolding within eq_z
 alone u x = grind (arith, ints)
 
-point_spanned : (u p x : ℤ) → worth (P.Terms.point u p) x ≡ worth (P.Terms.span u u (pos 0) p) x
+pub point_spanned : (u p x : ℤ) → worth (P.Terms.point u p) x ≡ worth (P.Terms.span u u (pos 0) p) x
 unfolding worth
 point_spanned u p x = rw (zero-*ℤ x, alone u x) (ap (λ (q : ℤ). cond (within u u x) (some q) none) (omega (arith, ints)))
 

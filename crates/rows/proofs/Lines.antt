@@ -7,11 +7,13 @@ use mathlib.Core.Option.{some}
 use Rattle.std.proofs.lemmas.Int.{ints}
 use Prim.Native.Nat.{ℕ, ◌+◌, ◌^◌, ◌≤◌, ◌<◌, max}
 use native.Mathlib.Omega.{arith}
-use lib.Dec.{leb, ltb}
-use lib.IntN.{ℤ, pos, nat_abs, ◌+ℤ◌, ◌-ℤ◌, ◌*ℤ◌}
+use lib.Dec.{T, leb, ltb}
+use lib.IntN.{ℤ, pos, negsuc, nat_abs, ◌+ℤ◌, ◌-ℤ◌, ◌*ℤ◌}
 use lib.ListN.{length, get_or, set, length-set}
 use lib.Seq.{get_or-set_same, get_or-set_other}
-use lib.Signed.{le_z}
+use lib.Signed.{le_z, lt_z, non_neg}
+use mir.Syntax.{w32, w64}
+use mir.Val.{SFits, Fits}
 use borrow.Author.Count.{below_more}
 use borrow.Author.Tests.{le-leb, lt-leb, lt-ltb, le-ltb}
 use Rattle.numbers.specs.Whole.{within}
@@ -49,6 +51,33 @@ module _ (s : Span) where
 
 pub exchanged : (a b c : ℤ) → a -ℤ b ≡ c → b ≡ a -ℤ c
 exchanged a b c e = omega (arith, ints)
+
+-- high is k units below the top
+module _ (t high : ℤ) (k : ℕ) (e : t -ℤ high ≡ pos k) where
+  pub start_units : high ≡ t -ℤ pos k
+  start_units = exchanged t high (pos k) e
+
+  pub start_place : (x : ℕ) → le_z (t -ℤ pos x) high ≡ leb k x
+  start_place x = grind (arith, ints)
+
+pub start_top : (t high : ℤ) → lt_z high t ≡ false → (t ≡ t -ℤ pos 0) × ((x : ℕ) → le_z (t -ℤ pos x) high ≡ leb 0 x)
+start_top t high e = (omega (arith, ints), λ x. grind (arith, ints))
+
+module _ (t low : ℤ) where
+  pub cells_none : (r : ℤ) → r ≡ t -ℤ low → lt_z r (pos 0) ≡ true → (x : ℕ) → le_z low (t -ℤ pos x) ≡ ltb x 0
+  cells_none r e h x = grind (arith, ints)
+
+  pub cells_some : (k : ℕ) → pos k ≡ t -ℤ low → (x : ℕ) → le_z low (t -ℤ pos x) ≡ ltb x (k + 1)
+  cells_some k e x = grind (arith, ints)
+
+-- a place that is not below 0 is an index
+pub index : (z : ℤ) → lt_z z (pos 0) ≡ false → SFits w32 z → T (non_neg z) × Fits w64 (nat_abs z)
+index (pos n) e f = (tt, record { fits = omega (arith, f.sfits) })
+index (negsuc n) e f = cc (e)
+
+-- where high is below the top, its place is not below 0
+pub below_top : (t high z : ℤ) → z ≡ t -ℤ high → lt_z high t ≡ true → lt_z z (pos 0) ≡ false
+below_top t high z e h = grind (arith, ints)
 
 -- the cells of a row of n from `from` on that are below `end`
 pub record Covered (s : Span) (top : ℤ) (n from end : ℕ) : Type 0 where
@@ -109,3 +138,8 @@ module _ (s : Span) (top : ℤ) (row₀ : List ℕ) (from end : ℕ) (C : Covere
     pub put_done : end ≤ x → (y : ℕ) → y < length row₀ → get_or row y 0 ≡ max (get_or row₀ y 0) (cell_in s (top -ℤ pos y))
     put_done h y l =
         grind (arith, I.put y, I.left y, after s top (length row₀) from end C y l)
+
+-- `Putting`, without naming the span
+abbrev pub Put : List ℕ → ℕ → ℤ → ℤ → ℕ → List ℕ → ℤ → ℕ → Type 0
+Put row₀ end slope p₀ from row p x =
+    (s : Span) (top : ℤ) → s.slope.0 ≡ slope → Covered s top (length row₀) from end → p₀ ≡ on_line s (top -ℤ pos from) → Putting s top from x p row₀ row

@@ -6,7 +6,7 @@ use Prim.Native.Nat.{ℕ, zero, suc, ◌+◌, ◌-◌, ◌<◌, ◌≤◌}
 use native.Mathlib.Omega.{arith}
 use lib.ListN.{length, get_or, set, length-set}
 use lib.Seq.{get_or-set_same, get_or-set_other}
-use borrow.Author.Count.{below_more}
+use borrow.Author.Count.{below_none, below_more}
 use borrow.Author.Tests.{lt-ltb, le-ltb}
 use Rattle.problem.proofs.Cell.{◌⊕◌, ⊕_comm}
 use Rattle.problem.proofs.Max.{max_to, argmax}
@@ -17,6 +17,12 @@ pub one_none : (a b : ℕ) → (a ≡ 0) ⊎ ((a ≡ 0 → ⊥) × (b ≡ 0)) �
 unfolding ◌⊕◌
 one_none a b (inl e) = rw e
 one_none a b (inr n) = rw n.1 (⊕_comm 0 a)
+
+pub none_left : (a b : ℕ) → a ≡ 0 → 0 ≡ a ⊕ b
+none_left a b e = one_none a b (inl e)
+
+pub none_right : (a b : ℕ) → b ≡ 0 → 0 ≡ a ⊕ b
+none_right a b e = none_left b a e ∙ ⊕_comm b a
 
 pub both : (a b : ℕ) → (a ≡ 0 → ⊥) × (b ≡ 0 → ⊥) → a + b - 1 ≡ a ⊕ b
 unfolding ◌⊕◌
@@ -45,6 +51,9 @@ pub record Made (f : ℕ → ℕ) (old row : List ℕ) (x : ℕ) : Type 0 where
   pub len : length row ≡ length old
   pub cells : (y : ℕ) → y < x → get_or row y 0 ≡ f y
   pub past : (y : ℕ) → x ≤ y → get_or row y 0 ≡ get_or old y 0
+
+pub none_made : (f : ℕ → ℕ) (row : List ℕ) → Made f row row 0
+none_made f row = record { len = refl; cells = below_none _; past = λ y h. refl }
 
 pub one_made : {f : ℕ → ℕ} {old row : List ℕ} {x v : ℕ} → Made f old row x → x < length row → v ≡ f x → Made f old (set row x v) (x + 1)
 one_made {f} {old} {row} {x} {v} m l e = record {
