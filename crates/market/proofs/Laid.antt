@@ -1,5 +1,5 @@
 -- The feeder of a market on a tree is that market's, by the walk's positions; so is that of a file that passes refusals 1 to
--- 10, 13 and 14. Assumes nothing.
+-- 10, 13 and 14; and each of them has one. Assumes nothing.
 use mathlib.Core.Path.{◌≡◌, refl, sym, ap, ap₂, ◌∙◌, subst}
 use mathlib.Core.Logic.{inl, inr, ⊎_elim}
 use mathlib.Core.Bool.{Bool, true, false, cond}
@@ -7,10 +7,14 @@ use mathlib.Core.List.{List, [], ◌∷◌}
 use mathlib.Core.Option.{none}
 use Prim.Native.Nat.{ℕ, suc, ◌≤◌, ◌<◌}
 use native.Mathlib.Omega.{arith}
+use lib.Dec.{ltb}
 use lib.IntN.{pos}
-use lib.ListN.{length}
-use borrow.Author.Tests.{ne_eqb}
+use lib.ListN.{length, get_or-eq_default}
+use borrow.Author.Tests.{ne_eqb, lt-ltb, le-ltb}
+use Rattle.std.specs.List.{range_with_len}
+use Rattle.std.specs.Prelude.{map}
 use Rattle.std.proofs.lemmas.Bool.{cases_lt}
+use Rattle.std.proofs.lemmas.List.FromFn.{length-map-range_with_len, get_or-map-range_with_len}
 use Rattle.problem.specs.Problem.{Link, Market, joins, walk}
 use Rattle.problem.proofs.Tree.{Within, Tree}
 use Rattle.problem.proofs.Links.{Ends, joins_ends}
@@ -129,6 +133,41 @@ feeder_laid m R few small f F = record {
   away_is = away_is m R few small f.position F.positions;
 }
 
+-- ---- a market on a tree has a feeder, whose array has 32 places
+
+module _ (m : Market) (few : m.members ≤ 32) where
+  -- what stands at position i
+  stands : ℕ → Position
+  stands i = cond (ltb i m.members) (laid_at m i) no_position
+
+  all_places : List Position
+  all_places = map stands (range_with_len 0 32)
+
+  stands_at : (i : ℕ) → i < 32 → position_at all_places i ≡ stands i
+  unfolding all_places
+  stands_at i l = get_or-map-range_with_len stands 0 32 i i no_position l (omega arith)
+
+  all_of : PositionsOf m all_places
+  unfolding stands all_places
+  all_of = record {
+    at = λ i l. stands_at i (omega arith) ∙ rw (lt-ltb i m.members l) refl;
+    past = λ i l. ⊎_elim (λ h. stands_at i h ∙ rw (le-ltb i m.members l) refl) (λ h. get_or-eq_default all_places no_position h) (cases_lt i 32);
+  }
+
+pub feeder_found : (m : Market) → Tree m → m.members ≤ 32 → ((u v : ℕ) → capacity_of m.links u v ≤ 40) → (f : Feeder) × FeederOf m f × (length f.position ≡ 32)
+unfolding all_places
+feeder_found m R few small = (
+  record { members = m.members; position = all_places m few; sound = positions_sound m R few small (all_places m few) (all_of m few) },
+  record { members = refl; positions = all_of m few },
+  length-map-range_with_len (stands m few) 0 32,
+)
+
 pub file_laid : (f : List ℕ) → file_refusal f ≡ none → (x : Feeder) → FeederOf (market_of f) x → Laid (market_of f) x
 unfolding market_of
 file_laid f e = feeder_laid (market_of f) (sound_tree f e) (market_few f) (capacity_small f)
+
+pub file_found : (f : List ℕ) → file_refusal f ≡ none → (x : Feeder) × FeederOf (market_of f) x × Laid (market_of f) x
+unfolding market_of
+file_found f e =
+    let x = feeder_found (market_of f) (sound_tree f e) (market_few f) (capacity_small f) in
+    (x.0, x.1, file_laid f e x.0 x.1)

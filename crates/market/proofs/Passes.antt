@@ -10,6 +10,7 @@ use native.Mathlib.Omega.{arith}
 use native.Mathlib.Numerals.{add-one}
 use lib.Dec.{ltb}
 use lib.ListN.{length}
+use borrow.Author.Count.{below_more}
 use borrow.Author.Tests.{lt-ltb}
 use Rattle.std.proofs.lemmas.Bool.Decides.{nat_tests}
 use Rattle.problem.specs.Problem.{lowest}
@@ -51,6 +52,9 @@ module _ (p : ℕ → Bool) where
   -- members 1 to j do not pass
   abbrev pub Passed : ℕ → Type 0
   Passed j = (k : ℕ) → k < j → p (suc k) ≡ false
+
+  pub member_miss : (j : ℕ) → Passed j → p (suc j) ≡ false → Passed (j + 1)
+  member_miss j h e = below_more _ j h e
 
   pub member_hit : (n j : ℕ) → Passed j → j < n → p (suc j) ≡ true → lowest_member p n ≡ some (j + 1)
   unfolding lowest_member place_if

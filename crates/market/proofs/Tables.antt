@@ -1,5 +1,6 @@
 -- The tally of a file's members and offers, record by record, and the lowest member whose count is outside. Assumes nothing.
 use Rattle.std.proofs.lemmas.Bool.Decides.{nat_tests}
+use Rattle.std.proofs.lemmas.Grind.{common_steps}
 use mathlib.Core.Path.{◌≡◌, refl, sym, ap, ◌∙◌, subst}
 use mathlib.Core.Bool.{Bool, true, false, cond}
 use mathlib.Core.List.{List, [], ◌∷◌}
@@ -9,7 +10,7 @@ use native.Mathlib.Omega.{arith}
 use native.Mathlib.Nat.{not-suc-le-zero}
 use native.Mathlib.Numerals.{add-one}
 use lib.Dec.{eqb, ltb}
-use lib.ListN.{length, get_or, take, replicate, get_or-replicate}
+use lib.ListN.{length, get_or, set, take, replicate, get_or-replicate}
 use Rattle.std.specs.Prelude.{not, Ok, Err, Some, None, MatchOption, position}
 use Rattle.std.specs.List.{position_or_len}
 use Rattle.std.proofs.lemmas.List.{length-take-le}
@@ -27,11 +28,15 @@ use Rattle.records.specs.declared.Record.{Record}
 use Rattle.records.specs.declared.Rule.{Rule}
 use Rattle.records.specs.inner.Cases.{reading_of}
 use Rattle.records.specs.Refusals.{place_if}
-use Rattle.records.proofs.Entries.{rest, ended, link_is, offer_is, begins_is, fault_is, MemberFits, Fits, entry_fits}
+use Rattle.records.proofs.Entries.{rest, ended, link_is, offer_is, begins_is, MemberFits, Fits, entry_fits}
 use Rattle.market.specs.Refusals.{lowest_member, offers_by, without, too_many}
 use Rattle.market.specs.declared.offers.Tally.{Tally}
 use Rattle.market.specs.inner.Tallies.{Offered, Counts, outside}
 use Rattle.market.proofs.Top.{members_few, members_apart}
+
+-- one more for member m
+pub added : (by : List ℕ) (m i j : ℕ) → 1 ≤ m → m ≤ length by → i ≡ m - 1 → get_or (set by i (get_or by i 0 + 1)) j 0 ≡ get_or by j 0 + cond (eqb (suc j) m) 1 0
+added by m i j low high is = grind (arith, nat_tests, common_steps)
 
 -- ---- one record more
 
@@ -42,6 +47,14 @@ offer_member f i m t is = (subst Fits (offer_is (entry_at f i) m t is) (entry_fi
 -- r is t with a record that names member m and offers nothing
 abbrev Named : ℕ → Tally → Tally → Type 0
 Named m t r = (r.members.0 ≡ max t.members.0 m) × (r.offers ≡ t.offers) × (r.by ≡ t.by)
+
+-- a record that is read as a refusal, whatever its number
+pub fault_counts : (e : Entry) (t : Tally) (k : Rule) → reading_of e ≡ Err k → Counts e t t
+unfolding reading_of members_of offers_of offers_by
+fault_counts (link l) t k is = cc (is)
+fault_counts (offer o) t k is = cc (is)
+fault_counts (begins j) t k is = cc (is)
+fault_counts (fault n) t k is = record { members = omega arith; offers = omega arith; by = λ j l. omega arith; wide = refl }
 
 module _ (e : Entry) (t : Tally) where
   pub counts_link : (x r : Tally) (a b : Member) (c : Units) → reading_of e ≡ Ok (Record.Link a b c) → Named a.0 t x → Named b.0 x r → Counts e t r
@@ -63,9 +76,7 @@ module _ (e : Entry) (t : Tally) where
       (record { members = omega arith; offers = omega arith; by = λ j l. ap (λ (k : List ℕ). get_or k j 0) h.2 ∙ omega arith; wide = ap length h.2 })
 
   pub counts_fault : Fits e → (k : Rule) → reading_of e ≡ Err k → Counts e t t
-  unfolding members_of offers_of offers_by
-  counts_fault fits k is =
-      subst (λ (x : Entry). Counts x t t) (sym (fault_is e fits k is)) (record { members = omega arith; offers = omega arith; by = λ j l. omega arith; wide = refl })
+  counts_fault fits k is = fault_counts e t k is
 
 -- a record's offers, at most one, and those of the records after it
 offers_apart : (e : Entry) (es : List Entry) → (length (offers_of (e ∷ es)) ≡ length (offers_of (e ∷ [])) + length (offers_of es)) × (length (offers_of (e ∷ [])) ≤ 1)
@@ -158,6 +169,16 @@ first_is p q (suc n) (x ∷ xs) h e = rw (e 0 (omega arith)) (go (q 0) (first_is
     go : (b : Bool) → position_or_len p (take n xs) ≡ lowest (λ k. q (suc k)) n → cond (not b) (1 + position_or_len p (take n xs)) 0 ≡ cond b 0 (suc (lowest (λ k. q (suc k)) n))
     go true ih = refl
     go false ih = omega (arith, ih)
+
+module _ (least most x : ℕ) where
+  pub too_few : x < least → outside least most x ≡ true
+  too_few h = grind (arith, nat_tests)
+
+  pub too_high : most < x → outside least most x ≡ true
+  too_high h = grind (arith, nat_tests)
+
+  pub inside : least ≤ x → x ≤ most → outside least most x ≡ false
+  inside h k = grind (arith, nat_tests)
 
 no_count : (x : ℕ) → x ≤ 65535 → outside 1 65535 x ≡ eqb x 0
 no_count x h = grind (arith, nat_tests)

@@ -28,6 +28,11 @@ pub decided : (k : ℕ) (o : Option ℕ) (later : Option Refusal) (p : ℕ) → 
 unfolding ◌otherwise◌ refusal unless refusal_of
 decided k o later p e = rw e refl
 
+-- the refusal itself, whatever its number
+pub decided_as : (k : ℕ) (o : Option ℕ) (later : Option Refusal) (p : ℕ) → o ≡ some p → refusal k o otherwise later ≡ some (record { number = k; place = p })
+unfolding ◌otherwise◌ refusal
+decided_as k o later p e = rw e refl
+
 pub left_over : (k : ℕ) (o : Option ℕ) (later : Option Refusal) → o ≡ none → refusal k o otherwise later ≡ later
 unfolding ◌otherwise◌ refusal
 left_over k o later e = rw e refl
@@ -35,6 +40,10 @@ left_over k o later e = rw e refl
 pub last_decided : (k : ℕ) (o : Option ℕ) (p : ℕ) → o ≡ some p → verdict_of (refusal k o) ≡ Err (record { rule = rule_of k; place = p })
 unfolding refusal unless refusal_of
 last_decided k o p e = rw e refl
+
+pub refused_is : (k : ℕ) (o : Option ℕ) (p q : ℕ) → p ≡ q → o ≡ some q → some (record { number = k; place = p }) ≡ refusal k o
+unfolding refusal
+refused_is k o p q e is = rw (e, is) refl
 
 pub last_left : (k : ℕ) (o : Option ℕ) → o ≡ none → refusal k o ≡ none
 unfolding refusal
