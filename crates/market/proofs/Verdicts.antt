@@ -1,5 +1,5 @@
 -- The order of checking: what each check's answer makes of the file's refusal. Assumes nothing.
-use Rattle.std.specs.Prelude.{Result, Ok, Err}
+use Rattle.std.specs.Prelude.{Result, Ok, Err, ⊤}
 use mathlib.Core.Path.{◌≡◌, refl, sym, ap, ◌∙◌}
 use mathlib.Core.Bool.{Bool, true, false}
 use mathlib.Core.List.{List, ◌∷◌}
@@ -54,6 +54,11 @@ pub records_sound : (o : Option Refusal) → Ok tt ≡ verdict_of o → o ≡ no
 unfolding unless
 records_sound none e = refl
 records_sound (some f) e = cc (e)
+
+pub verdict_none : (o : Option Refusal) (v : Result ⊤ Code.Refusal) → v ≡ verdict_of o → ((r : Code.Refusal) → v ≡ Err r → ⊥) → o ≡ none
+unfolding unless
+verdict_none none v is d = refl
+verdict_none (some f) v is d = absurd (d _ is)
 
 pub records_refused : (o later : Option Refusal) (r : Code.Refusal) → Err r ≡ verdict_of o → verdict_of (o otherwise later) ≡ Err r
 unfolding ◌otherwise◌ unless
