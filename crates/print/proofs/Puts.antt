@@ -1,5 +1,5 @@
 -- Texts on a page: one, and one after another; and a line with one number more. Assumes nothing.
-use Rattle.std.proofs.Common.{◌≡◌, sym, ap, ◌∙◌, rules, arith, ℕ, ◌+◌, ◌-◌, ◌≤◌, ◌<◌, min, ℤ, pos, List, [], ◌∷◌, ◌++◌, append_assoc, length, take, drop, get_or, length-append, length-drop, inl, inr, refl}
+use Rattle.std.proofs.Common.{◌≡◌, sym, ap, subst, ◌∙◌, rules, arith, ℕ, ◌+◌, ◌-◌, ◌≤◌, ◌<◌, min, ℤ, pos, List, [], ◌∷◌, ◌++◌, append_assoc, length, take, drop, get_or, length-append, length-drop, inl, inr, refl}
 use Rattle.std.specs.Fmt.{signed_decimal}
 use Rattle.std.specs.List.{flat_map}
 use Rattle.std.proofs.lemmas.Bool.{cases_lt}
@@ -8,11 +8,19 @@ use Rattle.std.proofs.lemmas.List.{flat_map_more, take_more, take_all, length-ta
 use Rattle.std.proofs.lemmas.Slice.{overwrites}
 use Rattle.std.proofs.Math.Seq.{take-append_seam, take-append-add, drop-append-add}
 use borrow.Rule.Slice.PartMut.{put_mid}
-use Rattle.print.specs.inner.Page.{Put, blank_and}
+use Rattle.print.specs.inner.Page.{Put, PutNumber, blank_and}
 
 -- the first bytes of s, as many as fit, stand from the place on
 pub put_part : (page s part : List ℕ) (at n k : ℕ) → part ≡ take n s → n ≡ min (length s) (length page - at) → k ≡ n → at ≤ length page → Put page at s (put_mid at k page part) (at + n)
 put_part page s part at n k holds fits all within = record { bytes = search (rules, overwrites); end = omega arith }
+
+-- at the page's end, or past it, nothing is put
+pub put_past : (page : List ℕ) (at : ℕ) (s : List ℕ) → length page ≤ at → Put page at s page (length page)
+put_past page at s h = record { bytes = grind (arith, common_steps); end = omega arith }
+
+-- the number that a call was handed is the one that is meant
+pub same_number : {page made : List ℕ} {at place : ℕ} {z z' : ℤ} → z ≡ z' → PutNumber page at z made place → PutNumber page at z' made place
+same_number {page} {made} {at} {place} e p = subst (λ (z : ℤ). PutNumber page at z made place) e p
 
 -- a page keeps its length
 pub length-put : {page s made : List ℕ} {at place : ℕ} → Put page at s made place → length made ≡ length page
