@@ -1,4 +1,5 @@
 pub mod Shape
+pub mod Counts
 pub mod Tops
 pub mod Slots
 pub mod Parts

@@ -1,9 +1,11 @@
--- A message taken into a row, cell by cell: from the parts that were lent and came back. Assumes nothing.
+-- Parts of lists that were lent and came back, place by place: a row put in the store as a message, and a message taken into
+-- a row. Assumes nothing.
 use mathlib.Core.Path.{◌≡◌, sym, ap, ap₂, ◌∙◌, subst}
-use Prim.Native.Nat.{ℕ, ◌+◌, ◌-◌, ◌<◌, ◌≤◌}
+use Prim.Native.Nat.{ℕ, ◌+◌, ◌-◌, ◌<◌, ◌≤◌, ◌^◌}
 use native.Mathlib.Omega.{arith}
 use mathlib.Core.List.{List, ◌++◌}
 use Rattle.std.proofs.lemmas.Grind.{common_steps}
+use Rattle.std.specs.Prelude.{EachIndex, slice_index}
 use lib.ListN.{length, get_or, take, drop, length-take, length-drop, length-append, get_or-append}
 use lib.Seq.{get_or-take, length-take-le}
 use Rattle.problem.proofs.Cell.{◌⊕◌}
@@ -17,15 +19,34 @@ fronts P xs n h x l =
     let d : x < n = omega (arith, length-take n xs) in
     subst P (sym (get_or-take n xs x 0 d)) (h x d)
 
--- ---- take_in, as the code has it: the front of a message, and the choices from their place c on, lent to combine
-module _ (message row store : List ℕ) (i w c n : ℕ) (cs : c ≡ slot_of i) (lm : w < length message) (wl : w < length row) (ls : c + n ≡ length store)
-    (room : c + (length row - w) ≤ length store) where
+pub length_part : (xs : List ℕ) (a n : ℕ) → a + n ≤ length xs → length (take n (drop a xs)) ≡ n
+length_part xs a n h = length-take-le n (drop a xs) (omega (arith, length-drop a xs))
+
+-- ---- put_message, as the code has it: a row copied into the front of a message
+pub put_law : (row message : List ℕ) → length row ≤ length message
+    → ((x : ℕ) → x < length row → get_or (row ++ drop (length row) message) x 0 ≡ get_or row x 0)
+    × ((x : ℕ) → length row ≤ x → get_or (row ++ drop (length row) message) x 0 ≡ get_or message x 0)
+put_law row message l = (λ x d. grind (arith, common_steps), λ x d. grind (arith, common_steps))
+
+-- ---- take_in, as the code has it: the front of a message, and n choices from their place c on, lent to combine
+module _ (message row store : List ℕ) (i w c n : ℕ) (cs : c ≡ slot_of i) (lm : w < length message) (wl : w < length row) (ls : c + n ≤ length store)
+    (room : length row - w ≤ n) where
   msg : List ℕ
   msg = take (w + 1) message
 
   long : length msg ≡ w + 1
   unfolding msg
   long = length-take-le (w + 1) message (omega arith)
+
+  -- what combine requires of them
+  pub combine_asks : w ≤ 80 → ((p : ℕ) → p ≤ w → get_or message p 0 < 2 ^ 31) → EachIndex row (λ y. slice_index row y < 2 ^ 31)
+      → ((1 ≤ length (take (w + 1) message)) × (length (take (w + 1) message) ≤ 81) × (length (take (w + 1) message) ≤ length row)
+      × (length row + 1 ≤ length (take n (drop c store)) + length (take (w + 1) message)))
+      × (EachIndex row (λ y. slice_index row y < 2 ^ 31) × EachIndex (take (w + 1) message) (λ p. slice_index (take (w + 1) message) p < 2 ^ 31))
+  unfolding msg
+  combine_asks few hm hr =
+      let l = length_part store c n ls in
+      ((omega (arith, long), omega (arith, long), omega (arith, long), omega (arith, long, l)), (hr, fronts (λ (z : ℕ). z < 2 ^ 31) message (w + 1) (λ p d. hm p (omega arith))))
 
   same : (x : ℕ) → x < length row - w → (p : ℕ) → p ≤ w → meets row msg x p ≡ meet message row w x p
   unfolding meets msg
@@ -38,7 +59,7 @@ module _ (message row store : List ℕ) (i w c n : ℕ) (cs : c ≡ slot_of i) (
   unfolding msg
   taken_law last choice lc e =
       let W : length msg - 1 ≡ w = omega (arith, long) in
-      let size : length choice ≡ n = lc ∙ length-take-le n (drop c store) (omega (arith, length-drop c store)) in
+      let size : length choice ≡ n = lc ∙ length_part store c n ls in
       record {
         cells = λ x d. e.cells x (omega (arith, long)) ∙ ap (max_to (meets row msg x)) W ∙ max_to_ext _ _ w (same x d);
         picks = λ x d.

@@ -59,3 +59,11 @@ solved f own st chosen trades d t e h =
       sends = λ i l. e.sends i l ∙ ap (λ (x : ℕ). pos x -ℤ pos (away_at f i)) (t.choices i l);
       past = e.past;
     }
+
+-- before the last member nothing is sent yet, and nothing kept
+pub done_none : (f : Feeder) (own : ℕ → ℕ → ℕ) (st : Stores) (v : ℕ) → v ≡ f.members → Done f v st own
+done_none f own st v e =
+    record {
+      sent = record { sent = λ i p l d c. absurd (omega arith) };
+      kept = record { kept = λ i y a b c d g. absurd (omega (arith, f.sound.rising i a)) };
+    }

@@ -41,7 +41,7 @@ module _ (k : Walk) (n : ℕ) (s : Shape k n) where
   pub reach_first : (v : ℕ) → reach k (v + 1) v ≡ k.wide v
   reach_first v = reach_own k s.rising (v + 1) v (omega arith)
 
-  reach_kid : (i v : ℕ) → 1 ≤ i → k.par i ≡ v → reach k (i + 1) v ≡ reach k i v + k.wide i
+  pub reach_kid : (i v : ℕ) → 1 ≤ i → k.par i ≡ v → reach k (i + 1) v ≡ reach k i v + k.wide i
   reach_kid i v h e = rw (add-one i) (subst (λ (t : ℕ). reach k (suc i) t ≡ reach k i t + k.wide i) e (reach_par k s.rising i h))
 
   pub reach_not : (i v : ℕ) → 1 ≤ i → (k.par i ≡ v → ⊥) → reach k (i + 1) v ≡ reach k i v

@@ -2,7 +2,7 @@
 use mathlib.Core.Path.{◌≡◌, refl}
 use mathlib.Core.Logic.{inl, inr}
 use Prim.Native.Nat.{ℕ, zero, suc, ◌+◌, ◌-◌, ◌*◌, ◌<◌, ◌≤◌}
-use native.Mathlib.Nat.{not-suc-le-zero, mul-add, mul-suc, suc-mul, mul-one, eq-or-lt_of_le, le_of_suc-le-suc, mul_assoc, mul_comm}
+use native.Mathlib.Nat.{not-suc-le-zero, mul-add, mul-suc, suc-mul, mul-one, mul-le-mul_left, eq-or-lt_of_le, le_of_suc-le-suc, mul_assoc, mul_comm}
 use native.Mathlib.Omega.{arith}
 use Rattle.engine.specs.inner.Words.{slot_of}
 
@@ -12,6 +12,11 @@ square u = rw (mul-add u (40 * u) 1, mul-one u, ← mul_assoc u 40 u, mul_comm u
 at_least : (u : ℕ) → u ≤ u * u
 at_least zero = omega arith
 at_least (suc u) = omega (arith, mul-suc (suc u) u)
+
+pub slot_fits : (u : ℕ) → u ≤ 31 → (40 * u ≤ u * (40 * u + 1)) × (u * (40 * u + 1) ≤ 38471)
+slot_fits u l =
+    let s : u * u ≤ u * 31 = mul-le-mul_left u l in
+    (omega (arith, square u, at_least u), omega (arith, square u, s))
 
 slot_next : (u : ℕ) → slot_of (suc (suc u)) ≡ slot_of (suc u) + (80 * u + 1)
 unfolding slot_of

@@ -1,6 +1,7 @@
 -- The most units that a member can buy, added up position by position. Assumes nothing.
 use mathlib.Core.Path.{◌≡◌, refl, sym, ◌∙◌}
-use Prim.Native.Nat.{ℕ, zero, suc, ◌+◌, ◌-◌, ◌≤◌}
+use mathlib.Core.Bool.{Bool, true, false}
+use Prim.Native.Nat.{ℕ, zero, suc, ◌+◌, ◌-◌, ◌*◌, ◌≤◌}
 use native.Mathlib.Nat.{add-zero}
 use native.Mathlib.Numerals.{add-one}
 use native.Mathlib.Omega.{arith}
@@ -48,6 +49,18 @@ module _ (f : Feeder) (v : ℕ) where
   pub link_few : (i : ℕ) → (toward_at f i ≤ 40) × (away_at f i ≤ 40)
   link_few i = ((s.toward i).1, (s.away i).1)
 
+  pub top_most : (i : ℕ) → 1 ≤ i → top_to f v i ≤ 40 * i
+  top_most zero h = absurd (omega arith)
+  top_most (suc zero) h = omega (arith, top_start, (link_few v).1)
+  top_most (suc (suc i)) h = omega (arith, top_next i, one (eqb v (parent_at f (suc i))), top_most (suc i) (omega arith))
+    where
+      one : (t : Bool) → pick t (toward_at f (suc i)) 0 ≤ 40
+      one true = (link_few (suc i)).0
+      one false = omega arith
+
   pub top_end : (i : ℕ) → 1 ≤ i → i ≡ f.members → top_to f v i ≡ top_of f v
   unfolding top_to top_of
   top_end i h e = rw e refl
+
+  pub top_few : top_of f v ≤ 1280
+  top_few = omega (arith, top_end f.members s.some refl, top_most f.members s.some, s.few)

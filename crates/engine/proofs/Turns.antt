@@ -106,12 +106,14 @@ module _ (k : Walk) (n : ℕ) (s : Shape k n) where
           which j y f other = grind (arith, new_pick y, other)
 
   -- as the code has it: v is the parent, and w how wide the link is
-  pub kid_law : {row store : List ℕ} {v w len i : ℕ} (msgs : List (List ℕ)) → Small k.row → Gathering k n row store v len (suc i) → 1 ≤ i
-      → Sent k n msgs (v + 1) → k.par i ≡ v → w ≡ k.wide i → Asked msgs row i w len × Turned k n row store msgs v w len i
-  kid_law {row} {store} {v} {w} {len} {i} msgs o g h m e we =
-      subst (λ (u : ℕ). Asked msgs row i u len × Turned k n row store msgs v u len i) (sym we)
-      (subst (λ (u : ℕ). Gathering k n row store u len (suc i) → Sent k n msgs (u + 1) → Asked msgs row i (k.wide i) len × Turned k n row store msgs u (k.wide i) len i) e
-      (λ g m. (kid_fits g h m o, turn_kid g h m)) g m)
+  pub kid_law : {row store : List ℕ} {v w len i : ℕ} (msgs : List (List ℕ)) → Gathering k n row store v len (suc i) → 1 ≤ i → Sent k n msgs (v + 1) → k.par i ≡ v
+      → w ≡ k.wide i → (Small k.row → Asked msgs row i w len) × Turned k n row store msgs v w len i
+  kid_law {row} {store} {v} {w} {len} {i} msgs g h m e we =
+      subst (λ (u : ℕ). (Small k.row → Asked msgs row i u len) × Turned k n row store msgs v u len i) (sym we)
+      (subst
+      (λ (u : ℕ).
+      Gathering k n row store u len (suc i) → Sent k n msgs (u + 1)
+      → (Small k.row → Asked msgs row i (k.wide i) len) × Turned k n row store msgs u (k.wide i) len i) e (λ g m. (kid_fits g h m, turn_kid g h m)) g m)
 
   -- ---- a member's first row, and its message in the end
   pub start_law : (row store : List ℕ) (v len i : ℕ) → i ≡ n → v < n → len ≡ 1 + reach k n v → length row ≡ 2481

@@ -7,7 +7,7 @@ use Prim.Native.Nat.{ℕ, ◌+◌, ◌-◌, ◌<◌, ◌≤◌, ◌^◌}
 use lib.ListN.{length, take}
 use lib.Seq.{get_or-take, set-get_or, length-take-le}
 use Rattle.std.proofs.Common.{rules}
-use Rattle.engine.specs.inner.Words.{walk_of, Ready}
+use Rattle.engine.specs.inner.Words.{walk_of, Small, Ready}
 use Rattle.engine.proofs.Shape.{shape}
 use Rattle.engine.proofs.Parts.{fronts, whole, taken_whole}
 use Rattle.engine.proofs.Passes.{own_law}
@@ -15,18 +15,18 @@ use Rattle.engine.proofs.Turns.{fallen, Asked, Turned, kid_law, turn_not, start_
 use Rattle.engine.proofs.upward.member.Goals as goal
 use Rattle.engine.proofs.upward.member.Goals.{After-width-w, At-loop-k}
 
--- a child of v: what taking in its message asks, and how the row stands then
+-- a child of v: what taking in its message asks, where the own rows are small, and how the row stands then
 kid : (c : After-width-w) (own : ℕ → ℕ → ℕ) → Ready c.args.feeder.now c.args.table.now c.args.v c.args.stores.now own
     → let f = c.args.feeder.now in let st = c.loop-k.stores in let i = c.loop-k.k - 1 in
-    Asked st.messages c.loop-k.row i c.width-w.result c.loop-k.len
+    (Small own → Asked st.messages c.loop-k.row i c.width-w.result c.loop-k.len)
     × Turned (walk_of f own) f.members c.loop-k.row st.choices st.messages c.args.v c.width-w.result c.loop-k.len i
 kid c own r =
     let f = c.args.feeder.now in
-    kid_law (walk_of f own) f.members (shape f own) c.loop-k.stores.messages r.small (fallen _ _ (c.loop-k.invariant.gathered own r) (omega arith)) (omega arith)
+    kid_law (walk_of f own) f.members (shape f own) c.loop-k.stores.messages (fallen _ _ (c.loop-k.invariant.gathered own r) (omega arith)) (omega arith)
     (rw c.loop-k.invariant.messages r.sent) (omega arith) (omega arith)
 
 asked : (c : After-width-w) → Asked c.loop-k.stores.messages c.loop-k.row (c.loop-k.k - 1) c.width-w.result c.loop-k.len
-asked c = (kid c c.requires.ready.0 c.requires.ready.1).0
+asked c = let r = c.requires.ready in (kid c r.0 r.1).0 r.1.small
 
 front : (c : After-width-w) → length (take c.loop-k.len c.loop-k.row) ≡ c.loop-k.len
 front c =
