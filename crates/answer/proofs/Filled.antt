@@ -5,7 +5,7 @@ use mathlib.Core.List.{List, [], ◌++◌, append_assoc, append-nil}
 use Prim.Native.Nat.{ℕ, suc, ◌+◌, ◌-◌, ◌≤◌}
 use native.Mathlib.Omega.{arith}
 use native.Mathlib.Numerals.{add-one}
-use lib.ListN.{length, length-append, take, drop, length-take, drop_of_length-le}
+use lib.ListN.{length, length-append, take, drop, length-take, length-drop, drop_of_length-le}
 use lib.Seq.{take_at, drop_at, drop-length, take-length, drop-drop}
 use borrow.Rule.Slice.PartMut.{put_mid}
 use Rattle.records.specs.Answer.{each}
@@ -82,7 +82,14 @@ module _ (f : ℕ → List ℕ) (before : List ℕ) where
       let g : each (suc i) f ≡ each i f = (rw add-one at (ap (λ (x : List ℕ). each i f ++ x) e)) ∙ append-nil (each i f) in
       record { at_is = rw (add-one, g) F.at_is; out_is = rw (add-one, g) F.out_is }
 
-  -- there is room for one list more, up to the n-th
+  -- there is room up to the n-th
+  pub filled_room : {i at : ℕ} {out : List ℕ} (n : ℕ) → Filled f i before at out → i ≤ n → length (each n f) ≤ length before
+      → (at ≤ length before) × (length out ≡ length before)
+  filled_room {i} {at} n F l r =
+      let p : length (each i f) ≤ length (each n f) = each_prefix n i f l in
+      (omega (arith, F.at_is), ap length F.out_is ∙ length-append (each i f) (drop at before) ∙ omega (arith, length-drop at before, F.at_is))
+
+  -- and for one list more
   pub filled_next : {i at : ℕ} {out : List ℕ} (n : ℕ) → Filled f i before at out → i + 1 ≤ n → length (each n f) ≤ length before
       → at + length (f (i + 1)) ≤ length before
   unfolding each

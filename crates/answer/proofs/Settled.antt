@@ -42,9 +42,9 @@ pub member_by_lem : (records : List ℕ) (x : Allocation) (i : ℕ) {j : ℕ} {u
 unfolding member_by
 member_by_lem records x i e p q = let k : i + 1 - 1 ≡ i = omega arith in rw (q, p, e, k)
 
-pub members_length : (records : List ℕ) (x : Allocation) → length (members_by records x) ≡ 8 * x.feeder.now.members
+pub members_length : (records : List ℕ) (x : Allocation) (n : ℕ) → length (each n (member_by records x)) ≡ 8 * n
 unfolding member_by
-members_length records x = each_8 x.feeder.now.members (member_by records x) (λ j. member_8 j _ _)
+members_length records x n = each_8 n (member_by records x) (λ j. member_8 j _ _)
 
 -- ---- the record between two members
 
