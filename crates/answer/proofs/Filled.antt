@@ -25,7 +25,7 @@ module _ (p q : List ℕ) (a : ℕ) (e : length p ≡ a) where
   put_tail ys = rw (rest, take_at p q a e, drop_at p q a e, drop-length, append-nil)
 
 -- Three parts of an area b, one after the other: p, which ends at a, is there; the part from a to e is lent and q fills it;
--- and r, of k elements, is copied into the part from e on.
+-- the part from e on is lent and begins with r, or r, of k elements, is copied into the part for it.
 module _ (b p q r : List ℕ) (a e : ℕ) (p-ends : length p ≡ a) (q-fills : length q ≡ e - a) (order : a ≤ e) where
   middle : {l ys : List ℕ} → l ≡ p ++ drop a b → ys ≡ q ++ drop (length q) (take (e - a) (drop a l)) → put_mid a (e - a) l ys ≡ (p ++ q) ++ drop e b
   middle {l} {ys} is h =
@@ -36,8 +36,17 @@ module _ (b p q r : List ℕ) (a e : ℕ) (p-ends : length p ≡ a) (q-fills : l
       rw (is, take_at p d a p-ends, drop_at p d a p-ends, y, drop-drop (e - a) a b, m, append_assoc)
 
   pub three_parts : (k all : ℕ) → e + k ≡ all → {l₁ y₁ l₂ y₂ : List ℕ} → l₁ ≡ p ++ drop a b → y₁ ≡ q ++ drop (length q) (take (e - a) (drop a l₁)) → l₂ ≡ put_mid a (e - a) l₁ y₁
-      → y₂ ≡ r → put_mid e (e + k - e) l₂ y₂ ≡ (p ++ q ++ r) ++ drop all b
+      → y₂ ≡ r ++ drop k (take (length l₂ - e) (drop e l₂)) → put_mid e (length l₂ - e) l₂ y₂ ≡ (p ++ q ++ r) ++ drop all b
   three_parts k all ends {l₁} {y₁} {l₂} {y₂} is h put g =
+      let d : List ℕ = drop e b in
+      let len : length (p ++ q) ≡ e = omega (arith, length-append p q) in
+      let now : l₂ ≡ (p ++ q) ++ d = put ∙ middle is h in
+      let y : y₂ ≡ r ++ drop k d = g ∙ (rw (now, tail_is (p ++ q) d e len) refl) in
+      rw (now, put_tail (p ++ q) d e len y₂, y, drop-drop k e b, ends) (simp append_assoc)
+
+  pub three_copied : (k all : ℕ) → e + k ≡ all → {l₁ y₁ l₂ y₂ : List ℕ} → l₁ ≡ p ++ drop a b → y₁ ≡ q ++ drop (length q) (take (e - a) (drop a l₁)) → l₂ ≡ put_mid a (e - a) l₁ y₁
+      → y₂ ≡ r → put_mid e (e + k - e) l₂ y₂ ≡ (p ++ q ++ r) ++ drop all b
+  three_copied k all ends {l₁} {y₁} {l₂} {y₂} is h put g =
       let d : List ℕ = drop e b in
       let len : length (p ++ q) ≡ e = omega (arith, length-append p q) in
       let part : e + k - e ≡ k = omega arith in

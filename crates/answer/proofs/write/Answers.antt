@@ -6,7 +6,7 @@ use Prim.Native.Nat.{ℕ, ◌*◌, ◌-◌}
 use lib.ListN.{drop, length-take, length-drop}
 use Rattle.network.specs.declared.Feeder.{Feeder}
 use Rattle.answer.specs.inner.Records.{members_by}
-use Rattle.answer.proofs.Filled.{three_parts}
+use Rattle.answer.proofs.Filled.{three_copied}
 use Rattle.answer.proofs.Settled.{members_length, fitting, settles_by, answer_is, links_room}
 use Rattle.answer.proofs.write.Goals as goal
 
@@ -31,6 +31,6 @@ returns c m ys S =
     let n : x.feeder.now.members ≡ f.members = ap (λ (k : Feeder). k.members) is.0 in
     let X = settles_by x is S in
     let some = f.sound.some in
-    three_parts area _ _ _ (8 * f.members) (16 * f.members - 8) (omega (arith, n, members_length args.records.now x x.feeder.now.members)) (omega (arith, n, links_room x X)) (omega arith) 8 (16 * f.members) (omega arith)
+    three_copied area _ _ _ (8 * f.members) (16 * f.members - 8) (omega (arith, n, members_length args.records.now x x.feeder.now.members)) (omega (arith, n, links_room x X)) (omega arith) 8 (16 * f.members) (omega arith)
     (c.write_members.ensures ∙ ap (λ (k : ℕ). members_by args.records.now x ++ drop (8 * k) area) n) c.write_links.ensures refl (c.copy_from_slice.ensures.after ∙ c.total.ensures)
     ∙ ap (λ (bs : List ℕ). bs ++ drop (16 * f.members) area) (answer_is x X args.total.0)
