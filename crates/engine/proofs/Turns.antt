@@ -6,8 +6,7 @@ use Prim.Native.Nat.{ℕ, suc, ◌+◌, ◌-◌, ◌*◌, ◌<◌, ◌≤◌, �
 use native.Mathlib.Numerals.{add-one}
 use native.Mathlib.Omega.{arith}
 use mathlib.Core.List.{List, []}
-use Rattle.std.proofs.lemmas.Grind.{common_steps}
-use lib.ListN.{length, get_or, set}
+use lib.ListN.{length, get_or}
 use lib.Dec.{lit<}
 use Rattle.problem.proofs.Form.{Walk}
 use Rattle.problem.proofs.Reach.{reach, reach_par}
@@ -139,12 +138,12 @@ module _ (k : Walk) (n : ℕ) (s : Shape k n) where
     pub end_kept : Kept k n store v 0
     end_kept = record { kept = λ j y a b c d f. g.kept.kept j y a b c (λ z. omega (arith, last, s.rising j a)) f }
 
-    -- its message put in the store; the others are as before
-    pub end_sent : (msgs : List (List ℕ)) (message : List ℕ) → v < length msgs → Sent k n msgs (v + 1)
-        → ((x : ℕ) → x < len → get_or message x 0 ≡ get_or row x 0) → Sent k n (set msgs v message) v
-    end_sent msgs message size m ours = record { sent = λ j p a b c. grind (arith, common_steps, mine p, m.sent j p) }
+    -- its message put in the store, and those past it as before
+    pub end_sent : (msgs msgs' : List (List ℕ)) → Sent k n msgs (v + 1) → ((x : ℕ) → x < len → cell_in msgs' v x ≡ get_or row x 0)
+        → ((j p : ℕ) → v < j → cell_in msgs' j p ≡ cell_in msgs j p) → Sent k n msgs' v
+    end_sent msgs msgs' m ours others = record { sent = λ j p a b c. grind (arith, mine p, others j p, m.sent j p) }
       where
-        mine : (p : ℕ) → p ≤ k.wide v → get_or message p 0 ≡ tab k n (suc v) v p
+        mine : (p : ℕ) → p ≤ k.wide v → cell_in msgs' v p ≡ tab k n (suc v) v p
         mine p c =
             let d : p < len = omega (arith, end_len) in
             ours p d ∙ g.cells p d ∙ ap (λ (t : ℕ). tab k n t v p) (last ∙ add-one v)

@@ -1,11 +1,11 @@
 -- `member` meets its contract. The loop's invariant: for every own row that the table makes, the row has taken in the children
 -- from position k on; no message has changed.
 use native.Mathlib.Omega.{arith}
-use mathlib.Core.Path.{◌≡◌, refl, sym, ◌∙◌}
-use mathlib.Core.List.{[]}
+use mathlib.Core.Path.{◌≡◌, refl, sym, ap, ◌∙◌}
+use mathlib.Core.List.{List, []}
 use Prim.Native.Nat.{ℕ, ◌+◌, ◌-◌, ◌<◌, ◌≤◌, ◌^◌}
-use lib.ListN.{length, take}
-use lib.Seq.{get_or-take, set-get_or, length-take-le}
+use lib.ListN.{length, get_or, take}
+use lib.Seq.{get_or-take, get_or-set_same, get_or-set_other, set-get_or, length-take-le}
 use Rattle.std.proofs.Common.{rules}
 use Rattle.engine.specs.inner.Words.{walk_of, Small, Ready}
 use Rattle.engine.proofs.Shape.{shape}
@@ -101,7 +101,9 @@ returns c = λ own r.
     let lm : c.args.v < length c.loop-k.stores.messages = search rules in
     let n : length (take c.loop-k.len c.loop-k.row) ≡ c.loop-k.len = search rules in
     record {
-      sent = end_sent k _ s g q c.loop-k.stores.messages _ lm (rw c.loop-k.invariant.messages r.sent)
-          (λ x d. c.put_message.ensures x (omega arith) ∙ get_or-take c.loop-k.len c.loop-k.row x 0 d);
+      sent = end_sent k _ s g q c.loop-k.stores.messages _ (rw c.loop-k.invariant.messages r.sent)
+          (λ x d. ap (λ (cells : List ℕ). get_or cells x 0) (get_or-set_same c.loop-k.stores.messages _ c.put_message.new.message [] lm)
+          ∙ c.put_message.ensures x (omega arith) ∙ get_or-take c.loop-k.len c.loop-k.row x 0 d)
+          (λ j p l. ap (λ (cells : List ℕ). get_or cells p 0) (get_or-set_other c.loop-k.stores.messages _ j c.put_message.new.message [] (omega arith)));
       kept = end_kept k _ s g q;
     }
