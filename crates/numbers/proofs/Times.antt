@@ -1,7 +1,7 @@
 -- Products of signed numbers, for `omega` with the kit's `ints`: a positive factor multiplies both parts of a number, sizes multiply, and a
 -- product lies between two others. And the laws of products that the kit's integers leave out. Assumes nothing.
 use mathlib.Core.Path.{◌≡◌, ap, ap₂, ◌∙◌}
-use Prim.Native.Nat.{ℕ, suc, ◌+◌, ◌*◌, ◌^◌, ◌≤◌}
+use Prim.Native.Nat.{ℕ, suc, ◌+◌, ◌*◌, ◌^◌, ◌≤◌, ◌<◌}
 use native.Mathlib.Nat.{mul-le-mul, mul-le-mul_left, le_of_mul-le-mul_left, eq_of_mul-eq-mul_left}
 use native.Mathlib.Omega.{arith}
 use borrow.Author.Differences.{up, down, sum_is_lem, product_is}
@@ -42,6 +42,9 @@ line_fits {s} {x} {b} f g h =
     let m = mul-le-mul (nat_abs-le s f.sfits) (nat_abs-le x g.sfits) in
     let n = unsigned_abs-mul s x in
     omega (arith, ints)
+
+pub less_fits : (z : ℤ) {s : ℤ} → nat_abs z < 2 ^ 62 → SFits w32 s → SFits w64 (z -ℤ s)
+less_fits z {s} h f = omega (arith, ints)
 
 -- ---- order of products
 
