@@ -29,7 +29,7 @@ use Rattle.problem.proofs.Branch.{walk_more, walk_stays}
 -- one set: its lowest member is the lowest free neighbour
 module _ (ls : List Link) (n : ℕ) (adj : List Members) (A : Adj ls n adj) (t : List Hop) (steps : List Step) (count mask : ℕ) (H : Holds t steps count mask) where
   mask_free : (v w : ℕ) → v < n → w < 32 → holds (free_mask (set_in adj v) mask) w ≡ free ls t (suc v) (suc w)
-  mask_free v w l lw = grind (arith, holds_and (set_in adj v) ((2 ^ 32 - 1) - mask) w, A.masks v w l, holds_not mask w H.fits lw, H.seen w)
+  mask_free v w l lw = grind (arith, holds_and (set_in adj v) ((2 ^ 32 - 1) - mask) w, A.masks v w l, holds_not 32 mask w H.fits lw, H.seen w)
 
   mask_lt : (v : ℕ) → free_mask (set_in adj v) mask < 2 ^ 32
   mask_lt v = lt_of_le_of_lt (and_le_r (set_in adj v) ((2 ^ 32 - 1) - mask)) (ones_sub-lt 32 mask)
@@ -49,14 +49,14 @@ module _ (ls : List Link) (n : ℕ) (adj : List Members) (A : Adj ls n adj) (t :
   some_free v l d =
       let m = free_mask (set_in adj v) mask in
       let x = count_trailing_zeros 32 m in
-      let lx : x < 32 = trailing_inside m (mask_lt v) d in
-      let hit : free ls t (suc v) (suc x) ≡ true = sym (mask_free v x l lx) ∙ trailing_holds m (mask_lt v) d in
+      let lx : x < 32 = trailing_inside 32 m (mask_lt v) d in
+      let hit : free ls t (suc v) (suc x) ≡ true = sym (mask_free v x l lx) ∙ trailing_holds 32 m lx in
       let ln : suc x < suc n = omega (arith, (free_in (suc v) (suc x) hit).1) in
       (ln, lowest_is (free ls t (suc v)) (suc n) (suc x) ln hit (λ k lk. below k lk lx))
     where
       below : (k : ℕ) → k < suc (count_trailing_zeros 32 (free_mask (set_in adj v) mask)) → count_trailing_zeros 32 (free_mask (set_in adj v) mask) < 32 → free ls t (suc v) k ≡ false
       below zero lk lx = grind (arith, free_in (suc v) 0)
-      below (suc k) lk lx = sym (mask_free v k l (omega arith)) ∙ trailing_clear (free_mask (set_in adj v) mask) (mask_lt v) d k (omega arith)
+      below (suc k) lk lx = sym (mask_free v k l (omega arith)) ∙ trailing_clear 32 (free_mask (set_in adj v) mask) k (omega arith)
 
   -- so the search over sets is the walk's search
   pub on_mask_lem : (k : ℕ) → k ≤ count → ((i : ℕ) → i ≤ length t → (1 ≤ walked_at steps i) × (walked_at steps i ≤ n)) → on_mask adj steps mask k ≡ on_from ls (suc n) t k
@@ -85,7 +85,7 @@ unfolding on_mask
 on_lt adj steps mask zero s e = cc
 on_lt adj steps mask (suc k) s e =
     let m : ℕ = free_mask (set_in adj (walked_at steps k - 1)) mask in
-    grind (arith, on_lt adj steps mask k s, trailing_inside m (lt_of_le_of_lt (and_le_r (set_in adj (walked_at steps k - 1)) ((2 ^ 32 - 1) - mask)) (ones_sub-lt 32 mask)))
+    grind (arith, on_lt adj steps mask k s, trailing_inside 32 m (lt_of_le_of_lt (and_le_r (set_in adj (walked_at steps k - 1)) ((2 ^ 32 - 1) - mask)) (ones_sub-lt 32 mask)))
 
 -- ---- one step more in the array
 

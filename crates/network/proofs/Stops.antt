@@ -55,6 +55,14 @@ unfolding on_mask
 on_take adj steps mask count zero h = refl
 on_take adj steps mask count (suc k) h = grind (arith, get_or-take count steps k blank, on_take adj steps mask count k)
 
+-- ---- the members reached are those that a set can have
+
+pub known_start : (steps : List Step) → walked_at steps 0 ≡ 1 → Known steps 1
+known_start steps e i l = let first : walked_at steps i ≡ 1 = ap (walked_at steps) (omega arith) ∙ e in (omega (arith, first), omega (arith, first))
+
+pub known_more : (steps : List Step) (count : ℕ) (w : Step) → count < length steps → Numbered w.member → Known steps count → Known (set steps count w) (count + 1)
+known_more steps count w l b K i h = grind (arith, common_steps, b, K i)
+
 -- ---- the loop of the walk: the array holds the walk so far, of members that a set can have, and nothing after it
 pub record Walks (adj : List Members) (steps : List Step) (count mask : ℕ) : Type 0 where
   pub known : Known steps count
@@ -65,7 +73,7 @@ pub walks_none : (adj : List Members) (mask : ℕ) → mask ≡ 1 → Walks adj 
 walks_none adj mask e =
     let first : Step = record { member = member 1; from = 0 } in
     record {
-      known = λ i l. grind (arith, common_steps);
+      known = known_start (set (replicate 32 blank) 0 first) refl;
       walking = rw e (walking_none adj (set (replicate 32 blank) 0 first) refl refl);
       rest = blank_set blank (replicate 32 blank) 0 first (blank_none blank 32 0);
     }
@@ -92,7 +100,7 @@ module _ (adj : List Members) (steps : List Step) (count mask : ℕ) (W : Walks 
 
       pub walks_more : (next : ℕ) → next ≡ bit_or mask (2 ^ index w.member) → Walks adj (set steps count w) (count + 1) next
       walks_more next q = record {
-        known = λ i h. grind (arith, common_steps, next_numbered, W.known i);
+        known = known_more steps count w (omega (arith, long)) next_numbered W.known;
         walking = rw q (walking_more adj steps count mask w (omega (arith, long)) to W.walking);
         rest = blank_set blank steps count w W.rest;
       }

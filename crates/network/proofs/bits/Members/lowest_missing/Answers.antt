@@ -8,5 +8,5 @@ returns-then-self-from c = lowest_full _ _ c.requires.1 (omega arith)
 
 pub returns-else-self-from : goal.returns-else-self-from
 returns-else-self-from c =
-    let low = lowest_trailing _ _ c.requires.1 c.requires.0 (index c.at.result) (omega arith) (λ e. omega (arith, e)) in
+    let low = lowest_trailing _ _ c.requires.1 32 c.requires.0 (index c.at.result) (omega arith) (λ e. omega (arith, e)) in
     (omega arith, omega (arith, low.0), low.1)
