@@ -1,9 +1,11 @@
 -- Texts on a page: one, and one after another; and a line with one number more. Assumes nothing.
-use Rattle.std.proofs.Common.{◌≡◌, sym, ap, subst, ◌∙◌, rules, arith, ℕ, ◌+◌, ◌-◌, ◌≤◌, ◌<◌, min, ℤ, pos, List, [], ◌∷◌, ◌++◌, append_assoc, length, take, drop, get_or, length-append, length-drop, inl, inr, refl}
-use Rattle.std.specs.Fmt.{signed_decimal}
+use Rattle.std.proofs.Common.{◌≡◌, sym, ap, subst, ◌∙◌, rules, arith, ℕ, ◌+◌, ◌-◌, ◌≤◌, ◌<◌, min, ℤ, pos, negsuc, nat_abs, true, false, List, [], ◌∷◌, ◌++◌, append_assoc, length, take, drop, get_or, length-append, length-drop, inl, inr, refl}
+use Rattle.std.specs.Fmt.{decimal, signed_decimal}
 use Rattle.std.specs.List.{flat_map}
-use Rattle.std.proofs.lemmas.Bool.{cases_lt}
+use Rattle.std.proofs.lemmas.Bool.{cases_lt, true≢false}
+use lib.Signed.{lt_z}
 use Rattle.std.proofs.lemmas.Grind.{common_steps}
+use Rattle.std.proofs.lemmas.Int.{ints}
 use Rattle.std.proofs.lemmas.List.{flat_map_more, take_more, take_all, length-take, drop-drop}
 use Rattle.std.proofs.lemmas.Slice.{overwrites}
 use Rattle.std.proofs.Math.Seq.{take-append_seam, take-append-add, drop-append-add}
@@ -21,6 +23,16 @@ put_past page at s h = record { bytes = grind (arith, common_steps); end = omega
 -- the number that a call was handed is the one that is meant
 pub same_number : {page made : List ℕ} {at place : ℕ} {z z' : ℤ} → z ≡ z' → PutNumber page at z made place → PutNumber page at z' made place
 same_number {page} {made} {at} {place} e p = subst (λ (z : ℤ). PutNumber page at z made place) e p
+
+-- a sign and then the digits are a number in decimal
+pub below_zero : (z : ℤ) → lt_z z (pos 0) ≡ true → 45 ∷ decimal (nat_abs z) ≡ signed_decimal z
+below_zero (pos n) h = absurd (omega (arith, ints, h))
+below_zero (negsuc n) h = refl
+
+-- and where there is no sign, the digits alone
+pub from_zero : (z : ℤ) → lt_z z (pos 0) ≡ false → decimal (nat_abs z) ≡ signed_decimal z
+from_zero (pos n) h = refl
+from_zero (negsuc n) h = absurd (true≢false h)
 
 -- a page keeps its length
 pub length-put : {page s made : List ℕ} {at place : ℕ} → Put page at s made place → length made ≡ length page

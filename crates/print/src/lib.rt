@@ -8,7 +8,8 @@ ghost use Rattle.print.specs.inner.Page.{Put, PutNumber, line_of};
 
 use itoa::Buffer;
 
-// A page that is lent, with text up to a place.
+// A page that is lent, with text up to a place. Each function promises that it holds the lender's bytes still (`lent`), so that
+// the lender knows what stands on them once the page is gone.
 #[derive(Drop)]
 pub struct Page<'a> {
     pub bytes: &'a mut [u8],
@@ -21,6 +22,7 @@ impl<'a> Page<'a> {
     pub fn at(bytes: &'a mut [u8], place: usize) -> Page<'a>
         ensures bytes { result.bytes.now ≡ bytes.old }
         ensures end { result.end ≡ min place (length bytes.old) }
+        ensures lent { result.bytes.ghost_name ≡ bytes.entry.ghost_name }
     {
         let end = place.min(bytes.len());
         Page { bytes, end }
@@ -28,7 +30,8 @@ impl<'a> Page<'a> {
 
     // Puts a text on the page.
     pub fn text(&mut self, s: &[u8])
-        ensures { Put self.old.bytes.now self.old.end s.now self.new.bytes.now self.new.end }
+        ensures put { Put self.old.bytes.now self.old.end s.now self.new.bytes.now self.new.end }
+        ensures lent { self.new.bytes.ghost_name ≡ self.old.bytes.ghost_name }
     {
         let n = s.len().min(self.bytes.len() - self.end);
         self.bytes[self.end..self.end + n].copy_from_slice(&s[..n]);
@@ -37,15 +40,19 @@ impl<'a> Page<'a> {
 
     // Puts a number in decimal, with a minus sign where it is below 0 and no zero before its first digit.
     pub fn number(&mut self, n: i64)
-        ensures { PutNumber self.old.bytes.now self.old.end n self.new.bytes.now self.new.end }
+        ensures put { PutNumber self.old.bytes.now self.old.end n self.new.bytes.now self.new.end }
+        ensures lent { self.new.bytes.ghost_name ≡ self.old.bytes.ghost_name }
     {
+        let sign: &[u8] = if n < 0 { b"-" } else { b"" };
+        self.text(sign);
         let mut buffer = Buffer::new();
-        self.text(buffer.format(n).as_bytes());
+        self.text(buffer.format(n.unsigned_abs()).as_bytes());
     }
 
     // Puts a line: a word, then numbers with a blank before each.
     pub fn line(&mut self, word: &[u8], numbers: &[i64])
-        ensures { Put self.old.bytes.now self.old.end (line_of word.now numbers.now) self.new.bytes.now self.new.end }
+        ensures put { Put self.old.bytes.now self.old.end (line_of word.now numbers.now) self.new.bytes.now self.new.end }
+        ensures lent { self.new.bytes.ghost_name ≡ self.old.bytes.ghost_name }
     {
         self.text(word);
         for &n in numbers {

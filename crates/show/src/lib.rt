@@ -1,7 +1,7 @@
 // A market's answer, or its refusal, as lines on a page.
 #![tactic(auto)]
 
-ghost use Rattle.std.specs.Prelude.{[], ◌∷◌, pos, codes, IfErr};
+ghost use Rattle.std.specs.Prelude.{◌≡◌, [], ◌∷◌, pos, length, codes, IfErr};
 ghost use Rattle.print.specs.inner.Page.{Put, line_of};
 ghost use Rattle.records.specs.inner.Cases.{number_of};
 
@@ -15,7 +15,10 @@ const FLOW: u8 = Kind::Flow as u8;
 const TOTAL: u8 = Kind::Total as u8;
 
 // The line of a record of the answer: a member with its net and value, a link with its flow and load, or the total.
-fn line(page: &mut Page, record: &[u8]) {
+fn line(page: &mut Page, record: &[u8])
+    ensures lent { page.new.bytes.ghost_name ≡ page.old.bytes.ghost_name }
+    ensures kept { length page.new.bytes.now ≡ length page.old.bytes.now }
+{
     match *record {
         [MEMBER, member, n0, n1, v0, v1, v2, v3] => {
             let net = i16::from_le_bytes([n0, n1]);
@@ -35,10 +38,13 @@ fn line(page: &mut Page, record: &[u8]) {
     }
 }
 
-// Clears the market of a file, and puts its lines on the page: those of the answer, or the refusal's.
+// Clears the market of a file, and puts its lines on the page: those of the answer, or the refusal's. The page is on the bytes
+// that were lent, and as long as it was.
 pub fn lines(file: &[u8], page: &mut Page) -> Result<(), Refusal>
-    ensures { IfErr result (λ r. Put page.old.bytes.now page.old.end
+    ensures refusal { IfErr result (λ r. Put page.old.bytes.now page.old.end
         (line_of (codes "R") (pos (number_of r.rule) ∷ pos r.place ∷ [])) page.new.bytes.now page.new.end) }
+    ensures lent { page.new.bytes.ghost_name ≡ page.old.bytes.ghost_name }
+    ensures kept { length page.new.bytes.now ≡ length page.old.bytes.now }
 {
     let mut answer = [0u8; 512];
     let cleared = clearing::clear(file, &mut answer);

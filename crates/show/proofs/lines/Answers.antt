@@ -4,8 +4,8 @@ use mir.Syntax.{w64}
 use mir.Val.{to_z, of_z}
 use Rattle.show.proofs.lines.Goals as goal
 
-pub returns-in-Err : goal.returns-in-Err
-returns-in-Err c =
+pub returns-in-Err-clause-refusal : goal.returns-in-Err-clause-refusal
+returns-in-Err-clause-refusal c =
     let number : to_z w64 (of_z w64 c.into.result) ≡ pos c.number.result = search rules in
     let place : to_z w64 (of_z w64 c.into-in-Err.result) ≡ pos c.in-Err.refusal.place = search rules in
-    rw (number, place, c.number.ensures) at c.line-in-Err.ensures
+    rw (number, place, c.number.ensures) at c.line-in-Err.ensures.put

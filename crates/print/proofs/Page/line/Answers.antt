@@ -12,11 +12,11 @@ loop-n-preserved c =
     let i = c.loop-n.n-index in
     let z : ℤ = get_or numbers i (pos 0) in
     let read : to_z w64 (of_z w64 z) ≡ z = search rules in
-    let put = put_then (put_then c.loop-n.invariant c.text-in-loop-n.ensures) c.number.ensures in
-    rw (← line_more c.args.word.now numbers i c.loop-n-test.true) (rw read at put)
+    let put = put_then (put_then c.loop-n.invariant.0 c.text-in-loop-n.ensures.put) c.number.ensures.put in
+    (rw (← line_more c.args.word.now numbers i c.loop-n-test.true) (rw read at put), search rules)
 
-pub returns : goal.returns
-returns c =
-    let put = put_then c.loop-n.invariant c.text-2.ensures in
+pub returns-clause-put : goal.returns-clause-put
+returns-clause-put c =
+    let put = put_then c.loop-n.invariant.0 c.text-2.ensures.put in
     let all : take c.loop-n.n-index c.args.numbers.now ≡ c.args.numbers.now = search (rules, take_all) in
     rw all at put

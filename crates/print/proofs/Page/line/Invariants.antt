@@ -1,5 +1,5 @@
--- The loop of `line`: the word is put, and the first numbers.
-use Rattle.std.proofs.Common.{◌++◌, take}
+-- The loop of `line`: the word is put, and the first numbers, on the bytes that were lent.
+use Rattle.std.proofs.Common.{◌≡◌, ◌++◌, take}
 use Rattle.std.specs.List.{flat_map}
 use Rattle.print.specs.inner.Page.{Put, blank_and}
 use Rattle.print.proofs.Page.line.Given as goal
@@ -7,3 +7,4 @@ use Rattle.print.proofs.Page.line.Given as goal
 abbrev pub invariant-loop-n : goal.invariant-loop-n
 invariant-loop-n l =
     Put l.fn.self.bytes.now l.fn.self.end (l.word ++ flat_map blank_and (take l.n-index l.numbers)) l.self.bytes.now l.self.end
+    × (l.self.bytes.ghost_name ≡ l.fn.self.bytes.ghost_name)
