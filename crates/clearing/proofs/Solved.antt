@@ -6,7 +6,7 @@ use native.Mathlib.Omega.{arith}
 use lib.Dec.{lit<}
 use lib.ListN.{length, get_or, drop}
 use lib.IntN.{ℤ, pos, ◌-ℤ◌}
-use Rattle.std.specs.Prelude.{Err, IfNone}
+use Rattle.std.specs.Prelude.{Err, IfErr}
 use Rattle.std.specs.Prelude as Std
 use Rattle.problem.specs.Problem.{Market, Offer, Best, value}
 use Rattle.problem.specs.Problem as P
@@ -29,7 +29,7 @@ use Rattle.rows.proofs.Gives.{priced, cell_bound}
 use Rattle.records.specs.declared.Rule.TheVariants as Rule
 use Rattle.records.specs.inner.Cases.{number_of}
 use Rattle.engine.specs.declared.Solution.{Solution}
-use Rattle.engine.specs.inner.Words.{sent_in, walk_of, top_of, own_of, best_of, Solved}
+use Rattle.engine.specs.inner.Words.{sent_in, walk_of, top_of, own_of, best_of, Solved, Unsolved}
 use Rattle.answer.specs.inner.Words.{Settles}
 use Rattle.clearing.specs.Outcome.{code, Outcome}
 use Rattle.clearing.specs.Outcome.Outcome.{nothing, cleared}
@@ -104,11 +104,11 @@ module _ {m : Market} {f : Feeder} {records : List ℕ} (H : Held m f records) w
 
   -- ---- the outcome
 
-  pub nothing_left : (o : Std.Option Solution) → IfNone o (best_of f (own_of f os) ≡ 0) → ((s : Solution) → o ≡ Std.Some s → ⊥)
+  pub nothing_left : (r : Std.Result Solution Solution) → IfErr r (Unsolved f (own_of f os)) → ((s : Solution) → r ≡ Std.Ok s → ⊥)
       → (before : List ℕ) → Outcome m before (returned (Err (record { rule = Rule.Impossible; place = 0 }))) before
   unfolding best_of code number_of
-  nothing_left Std.None z t before = nothing (clear_none 1000000 m R prices (sym best_form ∙ z))
-  nothing_left (Std.Some s) z t before = absurd (t s refl)
+  nothing_left (Err s) u t before = nothing (clear_none 1000000 m R prices (sym best_form ∙ sym u.made.best_is ∙ u.none))
+  nothing_left (Std.Ok s) u t before = absurd (t s refl)
 
   module _ {s : Solution} (S : Solved f (own_of f os) s) where
     abbrev best : ℕ
@@ -116,7 +116,7 @@ module _ {m : Market} {f : Feeder} {records : List ℕ} (H : Held m f records) w
 
     best_is : best ≡ C.best 1000000 m
     unfolding best_of
-    best_is = S.best_is ∙ best_form
+    best_is = S.made.best_is ∙ best_form
 
     pub best_small : best ≤ 2 ^ 31
     unfolding tab
@@ -143,10 +143,10 @@ module _ {m : Market} {f : Feeder} {records : List ℕ} (H : Held m f records) w
       laid = H.laid;
       tables = H.tables;
       within = best_found.possible.within;
-      nets = λ i l. S.nets i l ∙ ap₂ (λ (a b : ℕ). pos a -ℤ pos b) (top_is i) (indices_form i)
+      nets = λ i l. S.made.nets i l ∙ ap₂ (λ (a b : ℕ). pos a -ℤ pos b) (top_is i) (indices_form i)
           ∙ sym (net_at 1000000 m R prices (choices 1000000 m) (choices_fit 1000000 m R prices (λ e. omega (arith, S.some, best_is, e))) i (omega (arith, one_fewer m R, count)))
           ∙ ap (λ (a : ℕ). P.net a m.links ys) (sym (H.laid.member_is i l));
-      first = S.sends 0 f.sound.some ∙ ap (λ (a : ℕ). pos 0 -ℤ pos a) f.sound.first.1;
+      first = S.made.sends 0 f.sound.some ∙ ap (λ (a : ℕ). pos 0 -ℤ pos a) f.sound.first.1;
       sends = sent_is;
     }
       where
@@ -155,7 +155,7 @@ module _ {m : Market} {f : Feeder} {records : List ℕ} (H : Held m f records) w
         sent_is (suc d) h l =
             let e : d < length m.links = omega (arith, one_fewer m R, count) in
             let k : parent m (suc d) < f.members = omega (arith, rising (suc d) (omega arith)) in
-            S.sends (suc d) l
+            S.made.sends (suc d) l
             ∙ ap₂ (λ (ps : List ℕ) (a : ℕ). pos (get_or ps d 0) -ℤ pos a) picks_form (H.laid.away_is (suc d))
             ∙ sym (sends_at 1000000 m R prices (choices 1000000 m) d e)
             ∙ sym (sent_place m.members m.links R.within ys (as_many best_found.possible.within) (member m (suc d)) (member m (parent m (suc d))) (near m R d (omega (arith, e, (steps m R).0))))

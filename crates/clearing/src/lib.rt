@@ -18,7 +18,7 @@ fn allocate(records: &[u8], feeder: &Feeder, answer: &mut [u8]) -> Result<usize,
     ensures outcome { (m : Market) → Held m feeder.now records.now → Outcome m answer.old (returned result) answer.new }
     ensures size { IfOk result (λ n. n ≤ 512) }
 {
-    let Some(solution) = engine::solve(feeder, records) else {
+    let Ok(solution) = engine::solve(feeder, records) else {
         return Err(Refusal {
             rule: Rule::Impossible,
             place: 0,

@@ -3,10 +3,10 @@
 // down it. `solve` promises the best total, and the first of the choices that make it.
 #![tactic(auto)]
 
-ghost use Rattle.std.specs.Prelude.{◌≡◌, IfNone, IfSome};
+ghost use Rattle.std.specs.Prelude.{IfErr, IfOk};
 ghost use Rattle.records.specs.Records.{entries};
 ghost use Rattle.records.specs.Market.{offers_of};
-ghost use Rattle.engine.specs.inner.Words.{own_of, best_of, Solved};
+ghost use Rattle.engine.specs.inner.Words.{own_of, Solved, Unsolved};
 
 use network::Feeder;
 use numbers::Units;
@@ -23,28 +23,31 @@ pub struct Trade {
     pub sent: Units,
 }
 
-// The best total, and by position what makes it. Past the members stands 0.
+// The cell of the best total, 0 where there is none, and by position what makes it. Past the members stands 0.
 #[derive(Clone, Copy)]
 pub struct Solution {
-    // the cell of the best total, at least 1
     pub best: u32,
     pub trades: [Trade; 32],
 }
 
-// The best total over a feeder, where every member's table stands in the same records; none where no allocation is
-// possible.
-#[tactic(auto, using(crate::proofs::Passes::total_is, crate::proofs::Passes::solved))]
-pub fn solve(feeder: &Feeder, records: &[u8]) -> Option<Solution>
-    ensures none { IfNone result (best_of feeder.now (own_of feeder.now (offers_of (entries records.now))) ≡ 0) }
-    ensures some { IfSome result (λ s. Solved feeder.now (own_of feeder.now (offers_of (entries records.now))) s) }
+// The best total over a feeder, where every member's table stands in the same records; an error where no allocation is
+// possible, with what the choices make all the same.
+#[tactic(auto, using(crate::proofs::Passes::made))]
+pub fn solve(feeder: &Feeder, records: &[u8]) -> Result<Solution, Solution>
+    ensures solved { IfOk result (λ s. Solved feeder.now (own_of feeder.now (offers_of (entries records.now))) s) }
+    ensures unsolved { IfErr result (λ s. Unsolved feeder.now (own_of feeder.now (offers_of (entries records.now))) s) }
 {
     let mut stores = stores::Stores::new();
     upward::upward(feeder, records, &mut stores);
     let best = stores.messages[0][0];
-    if best == 0 {
-        return None;
-    }
     let chosen = downward::choose(feeder, &stores.choices);
     let trades = downward::settle(feeder, &chosen);
-    Some(Solution { best, trades })
+    let solution = Solution { best, trades };
+    // named, so that the goals past the test keep their names under the edit `impossible_at_1`
+    let impossible = best == 0;
+    if impossible {
+        Err(solution)
+    } else {
+        Ok(solution)
+    }
 }

@@ -3,15 +3,15 @@ use Rattle.clearing.proofs.Solved.{best_small, nothing_left, settles, cleared_le
 use Rattle.clearing.proofs.allocate.Goals as goal
 
 pub returns-in_default-clause-outcome : goal.returns-in_default-clause-outcome
-returns-in_default-clause-outcome c m H = nothing_left H c.solve.result c.solve.ensures.none c.in_default.not-Some c.args.answer.now
+returns-in_default-clause-outcome c m H = nothing_left H c.solve.result c.solve.ensures.unsolved c.in_default.not-Ok c.args.answer.now
 
 pub total_of-total-requires : goal.total_of-total-requires
-total_of-total-requires c = let S = c.in-Some.ensures.some in (S.some, best_small c.requires.held.1 S)
+total_of-total-requires c = let S = c.in-Ok.ensures.solved in (S.some, best_small c.requires.held.1 S)
 
 pub returns-clause-outcome : goal.returns-clause-outcome
 returns-clause-outcome c m H =
-    let S = c.in-Some.ensures.some in
+    let S = c.in-Ok.ensures.solved in
     cleared_left H S _ _ _ c.total_of-total.ensures (c.write.ensures _ _ (settles H S))
 
 pub write-requires-clause-settles : goal.write-requires-clause-settles
-write-requires-clause-settles c = (_, _, settles c.requires.held.1 c.in-Some.ensures.some)
+write-requires-clause-settles c = (_, _, settles c.requires.held.1 c.in-Ok.ensures.solved)

@@ -101,12 +101,22 @@ pub record Flows (f : Feeder) (chosen : List Choice) (trades : List Trade) (n : 
 unfoldable pub best_of : Feeder → (ℕ → ℕ → ℕ) → ℕ
 best_of f own = run (walk_of f own) (f.members - 1) 1 0 0
 
--- a solution: the cell of the best total, and what each position buys and sends toward member 1
-pub record Solved (f : Feeder) (own : ℕ → ℕ → ℕ) (s : Solution) : Type 0 where
-  pub some : 1 ≤ s.best
+-- what the choices of elimination make, in a total or in none: the cell of the total, and what each position buys and sends
+-- toward member 1
+pub record Made (f : Feeder) (own : ℕ → ℕ → ℕ) (s : Solution) : Type 0 where
   pub best_is : s.best ≡ best_of f own
   pub nets : (i : ℕ) → i < f.members
       → net_in s.trades i ≡ pos (top_of f i) -ℤ pos (indices (walk_of f own) 1 start (picks (walk_of f own) (f.members - 1) 1 start) i)
   pub sends : (i : ℕ) → i < f.members
       → sent_in s.trades i ≡ pos (get_or (0 ∷ picks (walk_of f own) (f.members - 1) 1 start) i 0) -ℤ pos (away_at f i)
   pub past : (i : ℕ) → f.members ≤ i → (net_in s.trades i ≡ pos 0) × (sent_in s.trades i ≡ pos 0)
+
+-- a solution: there is a total
+pub record Solved (f : Feeder) (own : ℕ → ℕ → ℕ) (s : Solution) : Type 0 where
+  pub some : 1 ≤ s.best
+  pub made : Made f own s
+
+-- no allocation is possible, and what the choices make all the same
+pub record Unsolved (f : Feeder) (own : ℕ → ℕ → ℕ) (s : Solution) : Type 0 where
+  pub none : s.best ≡ 0
+  pub made : Made f own s
