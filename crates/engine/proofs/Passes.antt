@@ -2,7 +2,7 @@
 -- Assumes nothing.
 use mathlib.Core.Path.{◌≡◌, refl, ap, ◌∙◌}
 use mathlib.Core.List.{List, ◌++◌}
-use Prim.Native.Nat.{ℕ, ◌-◌, ◌<◌}
+use Prim.Native.Nat.{ℕ, ◌-◌, ◌<◌, ◌≤◌}
 use native.Mathlib.Omega.{arith}
 use lib.IntN.{ℤ, pos, ◌-ℤ◌}
 use lib.ListN.{length, get_or, get_or-append}
@@ -17,7 +17,7 @@ use Rattle.rows.proofs.Gives.{cell_bound}
 use Rattle.engine.specs.declared.Trade.{Trade}
 use Rattle.engine.specs.declared.downward.Choice.{Choice}
 use Rattle.engine.specs.declared.stores.Stores.{Stores}
-use Rattle.engine.specs.inner.Words.{walk_of, top_of, own_of, best_of, Small, cell_in, Ready, Done, Settled, Flows, Made}
+use Rattle.engine.specs.inner.Words.{walk_of, top_of, own_of, best_of, Small, cell_in, Ready, Done, Settled, Flows, Made, Solved}
 
 own_small : (f : Feeder) (table : List ℕ) → Small (own_of f (offers_of (entries table)))
 unfolding own_of
@@ -48,6 +48,7 @@ pub total_is : (f : Feeder) (own : ℕ → ℕ → ℕ) (st : Stores) → Done f
 unfolding tab best_of
 total_is f own st d = d.sent.sent 0 0 (omega arith) f.sound.some (omega arith)
 
+-- what the choices make, in a total or in none
 pub made : (f : Feeder) (own : ℕ → ℕ → ℕ) (st : Stores) (chosen : List Choice) (trades : List Trade) → Done f 0 st own
     → Settled (walk_of f own) f.members chosen → Flows f chosen trades f.members
     → Made f own (record { best = cell_in st.messages 0 0; trades = trades })
@@ -58,6 +59,12 @@ made f own st chosen trades d t e =
       sends = λ i l. e.sends i l ∙ ap (λ (x : ℕ). pos x -ℤ pos (away_at f i)) (t.choices i l);
       past = e.past;
     }
+
+-- and where there is a total, they solve it
+pub solved : (f : Feeder) (own : ℕ → ℕ → ℕ) (st : Stores) (chosen : List Choice) (trades : List Trade) → Done f 0 st own
+    → Settled (walk_of f own) f.members chosen → Flows f chosen trades f.members → 1 ≤ cell_in st.messages 0 0
+    → Solved f own (record { best = cell_in st.messages 0 0; trades = trades })
+solved f own st chosen trades d t e h = record { some = h; made = made f own st chosen trades d t e }
 
 -- before the last member nothing is sent yet, and nothing kept
 pub done_none : (f : Feeder) (own : ℕ → ℕ → ℕ) (st : Stores) (v : ℕ) → v ≡ f.members → Done f v st own
