@@ -6,7 +6,7 @@ use native.Mathlib.Omega.{arith}
 use lib.Dec.{lit<}
 use lib.ListN.{length, get_or, drop}
 use lib.IntN.{ℤ, pos, ◌-ℤ◌}
-use Rattle.std.specs.Prelude.{Err, IfErr}
+use Rattle.std.specs.Prelude.{Err, IfErr, IfNone}
 use Rattle.std.specs.Prelude as Std
 use Rattle.problem.specs.Problem.{Market, Offer, Best, value}
 use Rattle.problem.specs.Problem as P
@@ -104,11 +104,22 @@ module _ {m : Market} {f : Feeder} {records : List ℕ} (H : Held m f records) w
 
   -- ---- the outcome
 
-  pub nothing_left : (r : Std.Result Solution Solution) → IfErr r (Unsolved f (own_of f os)) → ((s : Solution) → r ≡ Std.Ok s → ⊥)
-      → (before : List ℕ) → Outcome m before (returned (Err (record { rule = Rule.Impossible; place = 0 }))) before
+  -- where the best total is none, nothing is cleared
+  none_left : best_of f (own_of f os) ≡ 0 → (before : List ℕ) → Outcome m before (returned (Err (record { rule = Rule.Impossible; place = 0 }))) before
   unfolding best_of code number_of
-  nothing_left (Err s) u t before = nothing (clear_none 1000000 m R prices (sym best_form ∙ sym u.made.best_is ∙ u.none))
-  nothing_left (Std.Ok s) u t before = absurd (t s refl)
+  none_left z before = nothing (clear_none 1000000 m R prices (sym best_form ∙ z))
+
+  -- so it is by a solution or none
+  pub nothing_left : (o : Std.Option Solution) → IfNone o (best_of f (own_of f os) ≡ 0) → ((s : Solution) → o ≡ Std.Some s → ⊥)
+      → (before : List ℕ) → Outcome m before (returned (Err (record { rule = Rule.Impossible; place = 0 }))) before
+  nothing_left Std.None z t before = none_left z before
+  nothing_left (Std.Some s) z t before = absurd (t s refl)
+
+  -- and by what `solve` says of either
+  pub unsolved_left : (r : Std.Result Solution Solution) → IfErr r (Unsolved f (own_of f os)) → ((s : Solution) → r ≡ Std.Ok s → ⊥)
+      → (before : List ℕ) → Outcome m before (returned (Err (record { rule = Rule.Impossible; place = 0 }))) before
+  unsolved_left (Err s) u t before = none_left (sym u.made.best_is ∙ u.none) before
+  unsolved_left (Std.Ok s) u t before = absurd (t s refl)
 
   module _ {s : Solution} (S : Solved f (own_of f os) s) where
     abbrev best : ℕ

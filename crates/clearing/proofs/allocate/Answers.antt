@@ -1,9 +1,9 @@
 -- `allocate` meets its contract: what the engine leaves of the market is its outcome.
-use Rattle.clearing.proofs.Solved.{best_small, nothing_left, settles, cleared_left}
+use Rattle.clearing.proofs.Solved.{best_small, unsolved_left, settles, cleared_left}
 use Rattle.clearing.proofs.allocate.Goals as goal
 
 pub returns-in_default-clause-outcome : goal.returns-in_default-clause-outcome
-returns-in_default-clause-outcome c m H = nothing_left H c.solve.result c.solve.ensures.unsolved c.in_default.not-Ok c.args.answer.now
+returns-in_default-clause-outcome c m H = unsolved_left H c.solve.result c.solve.ensures.unsolved c.in_default.not-Ok c.args.answer.now
 
 pub total_of-total-requires : goal.total_of-total-requires
 total_of-total-requires c = let S = c.in-Ok.ensures.solved in (S.some, best_small c.requires.held.1 S)
